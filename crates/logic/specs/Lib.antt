@@ -1,0 +1,12 @@
+-- the numbers of each record
+pub mod Written
+-- concepts, and what each node stands for
+pub mod Concepts
+-- what a book holds
+pub mod Books
+-- which books are lawful
+pub mod Lawful
+-- why an offered record is refused
+pub mod Refusals
+-- what is proved of them
+pub mod Laws
