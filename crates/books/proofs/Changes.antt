@@ -12,11 +12,12 @@ use Rattle.logic.proofs.Reading.{plain-marks-push}
 abbrev book : List Node → List Line → Book
 book ns ls = record { nodes = ns; lines = ls }
 
-pub node-more : (ns ns′ : List Node) (ls : List Line) (n m : Node) → ns′ ≡ ns ++ n ∷ [] → n ≡ m → book ns′ ls ≡ with-node (book ns ls) m
-node-more ns ns′ ls n m e is = ap (λ xs. book xs ls) (e ∙ ap (λ x. ns ++ x ∷ []) is)
+pub with-node-is : (ns ns′ : List Node) (ls : List Line) (n m : Node) → ns′ ≡ ns ++ n ∷ [] → n ≡ m → book ns′ ls ≡ with-node (book ns ls) m
+with-node-is ns ns′ ls n m e is = ap (λ xs. book xs ls) (e ∙ ap (λ x. ns ++ x ∷ []) is)
 
-pub entry-more : (ns : List Node) (ls ls′ : List Line) (x e : Entry) → ls′ ≡ ls ++ (record { entry = x; live = true }) ∷ [] → x ≡ e → book ns ls′ ≡ with-entry (book ns ls) e
-entry-more ns ls ls′ x e is same = ap (book ns) (is ∙ ap (λ y. ls ++ (record { entry = y; live = true }) ∷ []) same)
+pub with-entry-is : (ns : List Node) (ls ls′ : List Line) (l : Line) (x e : Entry) → ls′ ≡ ls ++ l ∷ [] → l ≡ record { entry = x; live = true } → x ≡ e → book ns ls′ ≡ with-entry (book ns ls) e
+with-entry-is ns ls ls′ l x e more is same =
+    ap (book ns) (more ∙ ap (λ y. ls ++ y ∷ []) (is ∙ ap (λ y. record { entry = y; live = true }) same))
 
 -- the marks of one node more
 pub marks-more : (ns ns′ : List Node) (ms ms′ : List Bool) (n : Node) (m : Bool) → ms ≡ plain-marks ns → ns′ ≡ ns ++ n ∷ [] → ms′ ≡ ms ++ m ∷ [] → m ≡ plain (read (concepts ns) n) → ms′ ≡ plain-marks ns′

@@ -2,6 +2,7 @@
 // record, and the slot table.
 pub mod book;
 pub mod faults;
+mod lines;
 mod lists;
 pub mod offers;
 pub mod sample;

@@ -59,14 +59,14 @@ fn node_placed(node: Node, plain_a: bool, plain_b: bool) -> bool
     }
 }
 
-// Whether a node is plain, given whether its operands are.
-pub fn plain_node(node: Node, plain_a: bool, plain_b: bool) -> bool
-    ensures { λ r. ⌜ ((cs : List Concept) → plain (of cs (node-a node)) ≡ «plain_a» → plain (of cs (node-b node)) ≡ «plain_b» → r ≡ plain (read cs node)) ⌝ }
+// Whether a node is plain, given whether its operands a and b are.
+pub fn plain_node(node: Node, a: bool, b: bool) -> bool
+    ensures { λ r. ⌜ ((cs : List Concept) → plain (of cs (node-a node)) ≡ a → plain (of cs (node-b node)) ≡ b → r ≡ plain (read cs node)) ⌝ }
 {
     match node {
-        Node::Not(_) => plain_a,
-        Node::And(_, _) | Node::Or(_, _) => plain_a && plain_b,
-        Node::All(_, _) | Node::Exists(_, _) => plain_b,
+        Node::Not(_) => a,
+        Node::And(_, _) | Node::Or(_, _) => a && b,
+        Node::All(_, _) | Node::Exists(_, _) => b,
         Node::Typical(_) => false,
         Node::Top | Node::Bottom | Node::Name(_) | Node::Absent => true,
     }

@@ -11,6 +11,8 @@ use crate::book::ReadableBook;
 use crate::faults::EnterFault;
 use crate::faults::NodeFault;
 use crate::faults::StrikeFault;
+use crate::lines::strike_line;
+use crate::lines::taken;
 use crate::lists::item_or;
 use crate::offers::Sides;
 use crate::offers::judge_entry;
@@ -135,7 +137,7 @@ pub impl EditableBook for SlotTable as SlotTableEditable {
     fn enter(&mut self, raw: RawEntry) -> Result<u16, EnterFault> {
         let count = self.entry_count();
         let entry = self.offered_entry(raw)?;
-        self.lines.push_reserved(Line { entry, live: true });
+        self.lines.push_reserved(taken(entry));
         Ok(count)
     }
 
@@ -143,14 +145,10 @@ pub impl EditableBook for SlotTable as SlotTableEditable {
         if i >= self.entry_count() {
             return Err(StrikeFault::NeverEntered(i));
         }
-        let line = self.lines[i as usize];
-        if !line.live {
+        if !self.entry_at(i).live {
             return Err(StrikeFault::Struck(i));
         }
-        self.lines[i as usize] = Line {
-            entry: line.entry,
-            live: false,
-        };
+        strike_line(&mut self.lines, i);
         Ok(())
     }
 }

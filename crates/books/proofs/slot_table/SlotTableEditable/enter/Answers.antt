@@ -12,7 +12,7 @@ use Rattle.logic.proofs.Refusing.{entry-granted}
 use Rattle.std.specs.Of.Vec.{vec-items, vec-len}
 use Rattle.std.proofs.shelf.Lists.{length-push}
 use Rattle.std.proofs.shelf.Results.{err-from-errBy}
-use Rattle.books.proofs.Changes.{entry-more}
+use Rattle.books.proofs.Changes.{with-entry-is}
 use Rattle.books.proofs.Exact.{entry-granted-exact, entry-refused-exact}
 use Rattle.books.proofs.slot_table.SlotTableEditable.enter.Needs as need
 
@@ -30,7 +30,7 @@ ghost-self c =
     let bk : Book = record { nodes = vec-items (s .nodes); lines = vec-items (s .lines) } in
     let h = c .in-Continue-entry .ensures tt in
     let lawful = entry-granted bk (c .args .raw) (h .0) .1 (lawful-known bk (s .lawful)) in
-    let grown = entry-more (vec-items (s .nodes)) (vec-items (s .lines)) (vec-items (c .push-reserved .last .self)) _ _ (c .push-reserved .ensures .items) (h .1) in
+    let grown = with-entry-is (vec-items (s .nodes)) (vec-items (s .lines)) (vec-items (c .push-reserved .last .self)) _ _ _ (c .push-reserved .ensures .items) (c .taken .ensures) (h .1) in
     let l : Line = record { entry = entry-of (c .args .raw); live = true } in
     let few : vec-len (c .push-reserved .last .self) ≤ 256 = omega (arith, lawful .well-formed .few-lines, length-push (vec-items (s .lines)) l, s .lines .ok .0) in
     (s .«node_room», (s .«plain_room», (omega (arith, s .«line_room»), (s .«few_nodes», (few, (s .marked, (∣ subst Lawful (sym grown) lawful ∣₁, tt)))))))
@@ -40,5 +40,5 @@ returns c =
     let s = c .args .self .now in
     let bk : Book = record { nodes = vec-items (s .nodes); lines = vec-items (s .lines) } in
     let h = c .in-Continue-entry .ensures tt in
-    let grown = entry-more (vec-items (s .nodes)) (vec-items (s .lines)) (vec-items (c .push-reserved .last .self)) _ _ (c .push-reserved .ensures .items) (h .1) in
+    let grown = with-entry-is (vec-items (s .nodes)) (vec-items (s .lines)) (vec-items (c .push-reserved .last .self)) _ _ _ (c .push-reserved .ensures .items) (c .taken .ensures) (h .1) in
     record { answer = (h .0, c .entry-count-count .ensures, grown); exact = entry-granted-exact bk (c .args .raw) (lawful-known bk (s .lawful)) (h .0) }

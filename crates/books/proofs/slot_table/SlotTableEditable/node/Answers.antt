@@ -13,7 +13,7 @@ use Rattle.logic.proofs.Refusing.{node-granted}
 use Rattle.std.specs.Of.Vec.{vec-items, vec-len}
 use Rattle.std.proofs.shelf.Lists.{length-push}
 use Rattle.std.proofs.shelf.Results.{err-from-errBy}
-use Rattle.books.proofs.Changes.{node-more, marks-more}
+use Rattle.books.proofs.Changes.{with-node-is, marks-more}
 use Rattle.books.proofs.Exact.{node-granted-exact, node-refused-exact}
 use Rattle.books.proofs.slot_table.SlotTableEditable.node.Needs as need
 
@@ -42,7 +42,7 @@ ghost-self c =
     let granted = node-granted bk raw (h .0) in
     let lawful = granted .1 (lawful-known bk (s .lawful)) in
     let more = c .push-reserved .ensures in
-    let grown = node-more ns (vec-items (c .push-reserved .last .self)) (vec-items (s .lines)) _ _ (more .items) (h .1) in
+    let grown = with-node-is ns (vec-items (c .push-reserved .last .self)) (vec-items (s .lines)) _ _ (more .items) (h .1) in
     let few : vec-len (c .push-reserved .last .self) ≤ 512 = omega (arith, lawful .well-formed .few-nodes, length-push ns (node-of raw), s .nodes .ok .0) in
     let a : raw .a ≡ node-a (c .in-Continue-node .node) = granted .0 .a ∙ sym (ap node-a (h .1)) in
     let b : raw .b ≡ node-b (c .in-Continue-node .node) = granted .0 .b ∙ sym (ap node-b (h .1)) in
@@ -55,5 +55,5 @@ returns c =
     let s = c .args .self .now in
     let bk : Book = record { nodes = vec-items (s .nodes); lines = vec-items (s .lines) } in
     let h = c .in-Continue-node .ensures tt in
-    let grown = node-more (vec-items (s .nodes)) (vec-items (c .push-reserved .last .self)) (vec-items (s .lines)) _ _ (c .push-reserved .ensures .items) (h .1) in
+    let grown = with-node-is (vec-items (s .nodes)) (vec-items (c .push-reserved .last .self)) (vec-items (s .lines)) _ _ (c .push-reserved .ensures .items) (h .1) in
     record { answer = (h .0, c .node-count-count .ensures, grown); exact = node-granted-exact bk (c .args .raw) (lawful-known bk (s .lawful)) (h .0) }
