@@ -4,6 +4,7 @@ pub mod book;
 pub mod faults;
 mod lines;
 mod lists;
+mod marked;
 pub mod offers;
 pub mod sample;
 pub mod slot_table;

@@ -1,10 +1,9 @@
 // An editable book that keeps each record in a slot of its own, each entry with its live mark.
 ghost use Prim.Native.Nat.{_≤_};
 ghost use mathlib.Core.Path.{_≡_};
-ghost use Rattle.logic.specs.Concepts.{of, concepts, plain, plain-marks, is-typical};
+ghost use Rattle.logic.specs.Concepts.{plain-marks};
 ghost use Rattle.logic.specs.Lawful.{Lawful};
 ghost use Rattle.logic.proofs.Deciding.{lawful-known};
-ghost use Rattle.books.specs.Answers.{Node-judged, Entry-judged};
 ghost use Rattle.std.specs.Of.Vec.{vec-items, vec-len, vec-cap};
 use crate::book::EditableBook;
 use crate::book::ReadableBook;
@@ -14,11 +13,10 @@ use crate::faults::StrikeFault;
 use crate::lines::strike_line;
 use crate::lines::taken;
 use crate::lists::item_or;
-use crate::offers::Sides;
-use crate::offers::judge_entry;
-use crate::offers::judge_node;
+use crate::marked::MarkedBook;
+use crate::marked::offered_entry;
+use crate::marked::offered_node;
 use crate::offers::plain_node;
-use crate::offers::typical_node;
 use logic::records::Entry;
 use logic::records::Line;
 use logic::records::Node;
@@ -47,46 +45,6 @@ pub struct SlotTable {
     ghost lawful: { ∥ Lawful (record { nodes = vec-items nodes; lines = vec-items lines }) ∥₁ },
 }
 
-impl SlotTable {
-    // Whether node i is plain; past the end it is.
-    fn plain_at(&self, i: u16) -> bool
-        ensures { λ r. ⌜ r ≡ plain (of (concepts (vec-items (now (self .entry) .nodes))) i) ⌝ }
-    {
-        item_or(&self.plain, i, true)
-    }
-
-    // Whether node i is typicality of something.
-    fn typical_at(&self, i: u16) -> bool
-        ensures { λ r. ⌜ r ≡ is-typical (of (concepts (vec-items (now (self .entry) .nodes))) i) ⌝ }
-    {
-        typical_node(self.node_at(i))
-    }
-
-    // The offered node, or why this book refuses it.
-    fn offered_node(&self, raw: RawNode) -> Result<Node, NodeFault>
-        ensures { λ r. ⌜ Node-judged (record { nodes = vec-items (now (self .entry) .nodes); lines = vec-items (now (self .entry) .lines) }) raw r ⌝ }
-    {
-        judge_node(
-            self.node_count(),
-            self.plain_at(raw.a),
-            self.plain_at(raw.b),
-            raw,
-        )
-    }
-
-    // The offered entry, or why this book refuses it.
-    fn offered_entry(&self, raw: RawEntry) -> Result<Entry, EnterFault>
-        ensures { λ r. ⌜ Entry-judged (record { nodes = vec-items (now (self .entry) .nodes); lines = vec-items (now (self .entry) .lines) }) raw r ⌝ }
-    {
-        let sides = Sides {
-            typical_a: self.typical_at(raw.a),
-            plain_a: self.plain_at(raw.a),
-            plain_b: self.plain_at(raw.b),
-        };
-        judge_entry(self.entry_count(), self.node_count(), sides, raw)
-    }
-}
-
 pub impl ReadableBook for SlotTable as SlotTableReadable {
     ghost meaning = { λ t. record { nodes = vec-items (t .nodes); lines = vec-items (t .lines) } };
 
@@ -113,6 +71,12 @@ pub impl ReadableBook for SlotTable as SlotTableReadable {
     }
 }
 
+impl MarkedBook for SlotTable as SlotTableMarked {
+    fn plain_at(&self, i: u16) -> bool {
+        item_or(&self.plain, i, true)
+    }
+}
+
 pub impl EditableBook for SlotTable as SlotTableEditable {
     fn new(heap: Global) -> Result<SlotTable, AllocError> {
         let nodes = Vec::with_capacity(heap, NODES)?;
@@ -127,7 +91,7 @@ pub impl EditableBook for SlotTable as SlotTableEditable {
 
     fn node(&mut self, raw: RawNode) -> Result<u16, NodeFault> {
         let count = self.node_count();
-        let node = self.offered_node(raw)?;
+        let node = offered_node(self, raw)?;
         let plain = plain_node(node, self.plain_at(raw.a), self.plain_at(raw.b));
         self.nodes.push_reserved(node);
         self.plain.push_reserved(plain);
@@ -136,7 +100,7 @@ pub impl EditableBook for SlotTable as SlotTableEditable {
 
     fn enter(&mut self, raw: RawEntry) -> Result<u16, EnterFault> {
         let count = self.entry_count();
-        let entry = self.offered_entry(raw)?;
+        let entry = offered_entry(self, raw)?;
         self.lines.push_reserved(taken(entry));
         Ok(count)
     }

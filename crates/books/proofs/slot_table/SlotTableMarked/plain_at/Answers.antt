@@ -4,7 +4,7 @@ use lib.ListN.{getD}
 use Rattle.logic.specs.Concepts.{concepts}
 use Rattle.logic.proofs.Reading.{plain-mark-at}
 use Rattle.std.specs.Of.Vec.{vec-items}
-use Rattle.books.proofs.slot_table.SlotTable.plain_at.Needs as need
+use Rattle.books.proofs.slot_table.SlotTableMarked.plain_at.Needs as need
 
 pub returns : need.returns
 returns c =
