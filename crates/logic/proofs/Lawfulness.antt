@@ -2,15 +2,14 @@
 -- Assumes nothing.
 use Prim.Native.Nat.{ℕ, zero, suc, _+_, _<_, _≤_}
 use mathlib.Core.Bool.{Bool, true, false, _&&_, _||_}
-use mathlib.Core.Logic.{_⊎_, inl, inr, ⊎-elim}
 use mathlib.Core.Path.{_≡_, refl, sym, ap, subst, _∙_}
 use mathlib.Core.List.{List, [], _∷_, _++_}
 use native.Mathlib.Omega.{arith}
 use lib.Dec.{ltb, lit≤}
-use lib.ListN.{length, getD, set}
+use lib.ListN.{length, getD, set, take, drop}
 use Rattle.std.specs.shelf.Lists.{All}
-use Rattle.std.proofs.shelf.Lists.{length-push, length-set, getD-append-left, getD-push}
-use Rattle.std.proofs.shelf.Elements.{all-push, all-weaker}
+use Rattle.std.proofs.shelf.Lists.{length-push, length-set, length-take, getD-take, take-append-drop}
+use Rattle.std.proofs.shelf.Elements.{all-push, all-take, all-weaker}
 use Rattle.std.proofs.shelf.Tests.{and-parts, and-from, ltb-true, lt-ltb}
 use Rattle.logic.specs.declared.records.Node.{Node}
 use Rattle.logic.specs.declared.records.Node.the-variants as node
@@ -18,7 +17,7 @@ use Rattle.logic.specs.declared.records.Entry.{Entry}
 use Rattle.logic.specs.declared.records.Entry.the-variants as entry
 use Rattle.logic.specs.declared.records.Line.{Line}
 use Rattle.logic.specs.Concepts.{Concept, of, concepts, plain, is-typical}
-use Rattle.logic.specs.Books.{Book, empty, node-at, no-line, line-at, struck, with-node, with-entry, with-strike}
+use Rattle.logic.specs.Books.{Book, empty, node-at, no-line, struck, with-node, with-strike}
 use Rattle.logic.specs.Lawful.{node-known, node-within-limits, node-operands-below, node-well-formed, node-placed, entry-known, entry-within-limits, entry-operands-below, entry-well-formed, entry-placed, Well-formed, Typicality-in-place, Lawful}
 use Rattle.logic.proofs.Reading.{concepts-stay}
 
@@ -96,6 +95,9 @@ pushed P [] x d f p (suc i) h = absurd (omega arith)
 pushed P (y ∷ xs) x d f p zero h = f zero (omega arith)
 pushed P (y ∷ xs) x d f p (suc i) h = pushed (λ j. P (suc j)) xs x d (λ j l. f (suc j) (omega arith)) p i (omega arith)
 
+front-within : (i : ℕ) (ns : List Node) (k : ℕ) → k < length (take i ns) → k < i
+front-within i ns k h = omega (arith, length-take i ns)
+
 -- what holds of each entry holds after a strike
 all-struck : (P : Entry → Type 0) (ls : List Line) (i : ℕ) → All (λ l. P (l .entry)) ls → All (λ l. P (l .entry)) (set ls i (struck (getD ls i no-line)))
 all-struck P [] i h = tt
@@ -135,12 +137,11 @@ module _ (bk : Book) (lawful : Lawful bk) where
       all-both (l ∷ ls) a b =
           (entry-placed-alike (length (bk .nodes)) (concepts (bk .nodes ++ n ∷ [])) (concepts (bk .nodes)) (before n) (l .entry) (entry-parts (length (bk .nodes)) (l .entry) (a .0) .2) ∙ b .0, all-both ls (a .1) (b .1))
 
-  -- one entry more, which is well formed and has typicality in place
-  pub lawful-with-entry : (e : Entry) → length (bk .lines) < 256 → entry-well-formed (length (bk .nodes)) e ≡ true → entry-placed (concepts (bk .nodes)) e ≡ true → Lawful (with-entry bk e)
-  lawful-with-entry e room formed placed =
+  -- one line more, whose entry is well formed and has typicality in place, live or not
+  pub lawful-with-line : (l : Line) → length (bk .lines) < 256 → entry-well-formed (length (bk .nodes)) (l .entry) ≡ true → entry-placed (concepts (bk .nodes)) (l .entry) ≡ true → Lawful (record { nodes = bk .nodes; lines = bk .lines ++ l ∷ [] })
+  lawful-with-line l room formed placed =
       let w = lawful .well-formed in
       let t = lawful .in-place in
-      let l : Line = record { entry = e; live = true } in
       record {
         well-formed = record {
           few-nodes = w .few-nodes;
@@ -149,6 +150,36 @@ module _ (bk : Book) (lawful : Lawful bk) where
           entries = all-push (λ l. entry-well-formed (length (bk .nodes)) (l .entry) ≡ true) (bk .lines) l (w .entries) formed;
         };
         in-place = record { nodes = t .nodes; entries = all-push (λ l. entry-placed (concepts (bk .nodes)) (l .entry) ≡ true) (bk .lines) l (t .entries) placed };
+      }
+
+  -- the first i nodes alone
+  pub lawful-nodes-front : (i : ℕ) → Lawful (record { nodes = take i (bk .nodes); lines = [] })
+  lawful-nodes-front i =
+      let ns = bk .nodes in
+      let w = lawful .well-formed in
+      let t = lawful .in-place in
+      let count = length (take i ns) in
+      let few : count ≤ length ns = rw length-take (omega arith) in
+      let at : (k : ℕ) → k < count → getD (take i ns) k node.Absent ≡ getD ns k node.Absent = λ k h. getD-take i ns k node.Absent (front-within i ns k h) in
+      let agree : (k : ℕ) → k < count → of (concepts ns) k ≡ of (concepts (take i ns)) k = λ k h. subst (λ xs. of (concepts xs) k ≡ of (concepts (take i ns)) k) (take-append-drop i ns) (concepts-stay (take i ns) (drop i ns) k h) in
+      let formed : (k : ℕ) → k < count → node-well-formed k (getD (take i ns) k node.Absent) ≡ true = λ k h. ap (node-well-formed k) (at k h) ∙ w .nodes k (omega arith) in
+      let below : (k : ℕ) → k < count → node-operands-below count (getD (take i ns) k node.Absent) ≡ true = λ k h. node-operands-more k count (omega arith) _ (node-parts k _ (formed k h) .2) in
+      record {
+        well-formed = record { few-nodes = omega (arith, w .few-nodes); few-lines = lit≤ tt; nodes = formed; entries = tt };
+        in-place = record {
+          nodes = λ k h. sym (node-placed-alike count (concepts ns) (concepts (take i ns)) agree _ (below k h)) ∙ ap (node-placed (concepts ns)) (at k h) ∙ t .nodes k (omega arith);
+          entries = tt;
+        };
+      }
+
+  -- all nodes, and the first j lines
+  pub lawful-lines-front : (j : ℕ) → Lawful (record { nodes = bk .nodes; lines = take j (bk .lines) })
+  lawful-lines-front j =
+      let w = lawful .well-formed in
+      let t = lawful .in-place in
+      record {
+        well-formed = record { few-nodes = w .few-nodes; few-lines = rw length-take (omega (arith, w .few-lines)); nodes = w .nodes; entries = all-take _ j (bk .lines) (w .entries) };
+        in-place = record { nodes = t .nodes; entries = all-take _ j (bk .lines) (t .entries) };
       }
 
   -- a strike leaves every entry

@@ -24,7 +24,7 @@ use Rattle.logic.specs.Books.{Book, node-at, no-line, with-node, with-entry}
 use Rattle.logic.specs.Lawful.{Lawful, node-known, node-within-limits, node-operands-below, node-well-formed, node-placed, entry-known, entry-within-limits, entry-operands-below, entry-well-formed, entry-placed}
 use Rattle.logic.specs.Refusals.{node-unused-zero, node-refusal, entry-unused-zero, entry-refusal, Writes-node, Writes-entry, Node-fits, Entry-fits}
 use Rattle.logic.proofs.Reading.{concepts-stay}
-use Rattle.logic.proofs.Lawfulness.{node-parts, entry-parts, node-placed-alike, lawful-with-node, lawful-with-entry}
+use Rattle.logic.proofs.Lawfulness.{node-parts, entry-parts, node-placed-alike, lawful-with-node, lawful-with-line}
 
 -- five tests in a row
 abbrev first-failed : Bool → Bool → Bool → Bool → Bool → ℕ
@@ -66,7 +66,7 @@ entry-kind-read (suc (suc (suc zero))) a b c h = refl
 entry-kind-read (suc (suc (suc (suc n)))) a b c h = grind (arith, tells)
 
 -- a node is read from its own numbers
-node-read : (n : Node) → node-known n ≡ true → (raw : RawNode) → Writes-node raw n → node-of raw ≡ n
+pub node-read : (n : Node) → node-known n ≡ true → (raw : RawNode) → Writes-node raw n → node-of raw ≡ n
 node-read n known raw w = ap node-of same ∙ own n known
   where
     same : raw ≡ record { kind = node-kind n; a = node-a n; b = node-b n }
@@ -84,7 +84,7 @@ node-read n known raw w = ap node-of same ∙ own n known
     own (node.Typical c) h = refl
     own node.Absent h = refl
 
-entry-read : (e : Entry) → entry-known e ≡ true → (raw : RawEntry) → Writes-entry raw e → entry-of raw ≡ e
+pub entry-read : (e : Entry) → entry-known e ≡ true → (raw : RawEntry) → Writes-entry raw e → entry-of raw ≡ e
 entry-read e known raw w = ap entry-of same ∙ own e known
   where
     same : raw ≡ record { kind = entry-kind e; a = entry-a e; b = entry-b e; c = entry-c e }
@@ -124,9 +124,9 @@ module _ (bk : Book) (raw : RawNode) where
       (record { room = lt-leb 512 (length ns) (omega (arith, more, lawful .well-formed .few-nodes)); is-known = parts .0; in-range = and-from _ _ (parts .1) zeros; is-there = parts .2; is-placed = sym alike ∙ placed }))
 
 module _ (bk : Book) (raw : RawEntry) where
-  -- a granted entry was written as it reads, and the book stays lawful
-  pub entry-granted : entry-refusal bk raw ≡ 0 → Writes-entry raw (entry-of raw) × (Lawful bk → Lawful (with-entry bk (entry-of raw)))
-  entry-granted h =
+  -- a granted entry was written as it reads, and the book stays lawful with it, live or not
+  pub entry-granted-line : (live : Bool) → entry-refusal bk raw ≡ 0 → Writes-entry raw (entry-of raw) × (Lawful bk → Lawful (record { nodes = bk .nodes; lines = bk .lines ++ (record { entry = entry-of raw; live = live }) ∷ [] }))
+  entry-granted-line live h =
       let e = entry-of raw in
       let count = length (bk .nodes) in
       let p = passed (leb 256 (length (bk .lines))) (entry-known e) (entry-within-limits e && entry-unused-zero raw) (entry-operands-below count e) (entry-placed (concepts (bk .nodes)) e) h in
@@ -134,7 +134,10 @@ module _ (bk : Book) (raw : RawEntry) where
       let u = and-parts (eqb (raw .a) (entry-a e)) (eqb (raw .b) (entry-b e) && eqb (raw .c) (entry-c e)) (q .1) in
       let v = and-parts (eqb (raw .b) (entry-b e)) (eqb (raw .c) (entry-c e)) (u .1) in
       let written : Writes-entry raw e = record { kind = entry-kind-read (raw .kind) (raw .a) (raw .b) (raw .c) (p .is-known); a = eqb-true _ _ (u .0); b = eqb-true _ _ (v .0); c = eqb-true _ _ (v .1) } in
-      (written, λ lawful. lawful-with-entry bk lawful e (leb-false 256 (length (bk .lines)) (p .room)) (and-from _ _ (p .is-known) (and-from _ _ (q .0) (p .is-there))) (p .is-placed))
+      (written, λ lawful. lawful-with-line bk lawful (record { entry = e; live = live }) (leb-false 256 (length (bk .lines)) (p .room)) (and-from _ _ (p .is-known) (and-from _ _ (q .0) (p .is-there))) (p .is-placed))
+
+  pub entry-granted : entry-refusal bk raw ≡ 0 → Writes-entry raw (entry-of raw) × (Lawful bk → Lawful (with-entry bk (entry-of raw)))
+  entry-granted h = entry-granted-line true h
 
   -- an entry with which the book is lawful is granted
   pub entry-taken : Entry-fits bk raw → entry-refusal bk raw ≡ 0

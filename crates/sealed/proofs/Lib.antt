@@ -1,0 +1,10 @@
+-- bytes and numbers
+pub mod Numbers
+-- one record, written and read
+pub mod Records
+-- the records from an offset on
+pub mod Rows
+-- bytes that pass are a sealed book
+pub mod Passing
+-- a sealed book passes and reads back
+pub mod Sealing

@@ -1,0 +1,112 @@
+-- What check and seal answer.
+-- Passes: the trailer fits and every record is granted in its turn. Check-answer, Seal-answer.
+-- Assumes nothing.
+use Prim.Native.Nat.{ℕ, _+_, _*_, _<_, _≤_}
+use mathlib.Core.Bool.{Bool, true, false}
+use mathlib.Core.Path.{_≡_}
+use mathlib.Core.List.{List, _++_}
+use lib.ListN.{length, getD, drop}
+use Rattle.std.specs.declared.result.Result.{Result}
+use Rattle.std.specs.declared.result.Result.the-variants.{Ok, Err}
+use Rattle.logic.specs.declared.records.Node.{Node}
+use Rattle.logic.specs.Written.{node-of}
+use Rattle.logic.specs.Concepts.{of, read, concepts, plain}
+use Rattle.logic.specs.Books.{Book}
+use Rattle.sealed.specs.declared.counts.Counts.{Counts}
+use Rattle.sealed.specs.declared.faults.CheckFault.{CheckFault}
+use Rattle.sealed.specs.declared.faults.CheckFault.the-variants as checks
+use Rattle.sealed.specs.declared.faults.SealFault.{SealFault}
+use Rattle.sealed.specs.declared.faults.SealFault.the-variants as seals
+use Rattle.sealed.specs.Writing.{records-length, written, Sealed}
+use Rattle.sealed.specs.Reading.{Bytes-from, raw-node-at, framed, node-total, entry-total, node-start, entry-start, nodes-in, node-refusal-in, entry-refusal-in}
+
+abbrev pub check-fault-number : CheckFault → ℕ
+check-fault-number (checks.BadFrame length) = 19
+check-fault-number (checks.UnknownKind byte) = 2
+check-fault-number (checks.OutOfRange byte) = 3
+check-fault-number (checks.NoSuchNode byte) = 4
+check-fault-number (checks.TypicalMisplaced byte) = 5
+
+-- the length of the bytes, or the first byte of the record
+abbrev pub check-fault-place : CheckFault → ℕ
+check-fault-place (checks.BadFrame length) = length
+check-fault-place (checks.UnknownKind byte) = byte
+check-fault-place (checks.OutOfRange byte) = byte
+check-fault-place (checks.NoSuchNode byte) = byte
+check-fault-place (checks.TypicalMisplaced byte) = byte
+
+abbrev pub seal-fault-number : SealFault → ℕ
+seal-fault-number (seals.TooShort length) = 20
+
+-- the length of the buffer
+abbrev pub seal-fault-place : SealFault → ℕ
+seal-fault-place (seals.TooShort length) = length
+
+-- each of the first n records is granted
+abbrev pub Granted : (ℕ → ℕ) → ℕ → Type 0
+Granted refusal n = (i : ℕ) → i < n → refusal i ≡ 0
+
+-- The trailer fits, has these counts, and every record is granted in its turn.
+pub record Passes (bs : List ℕ) (n m : ℕ) : Type 0 where
+  pub fits : framed bs ≡ true
+  pub nodes-are : n ≡ node-total bs
+  pub entries-are : m ≡ entry-total bs
+  pub nodes : Granted (node-refusal-in bs (node-start bs n m)) n
+  pub entries : Granted (entry-refusal-in bs (nodes-in bs (node-start bs n m) n) (entry-start bs m)) m
+
+-- Of n records from an offset on, each of `size` bytes, this one is the first that is refused.
+pub record First-refused (refusal : ℕ → ℕ) (n from size : ℕ) (f : CheckFault) : Type 0 where
+  pub which : ℕ
+  pub there : which < n
+  pub before : Granted refusal which
+  pub number : refusal which ≡ check-fault-number f
+  pub place : check-fault-place f ≡ from + size * which
+
+-- the trailer does not fit; or a node is the first bad record; or all nodes are good and an entry is
+pub data Bad (bs : List ℕ) (f : CheckFault) : Type 0 where
+  frame : framed bs ≡ false → check-fault-number f ≡ 19 → check-fault-place f ≡ length bs → Bad bs f
+  node : {n m : ℕ} → framed bs ≡ true → n ≡ node-total bs → m ≡ entry-total bs →
+      First-refused (node-refusal-in bs (node-start bs n m)) n (node-start bs n m) 5 f → Bad bs f
+  entry : {n m : ℕ} → framed bs ≡ true → n ≡ node-total bs → m ≡ entry-total bs →
+      Granted (node-refusal-in bs (node-start bs n m)) n →
+      First-refused (entry-refusal-in bs (nodes-in bs (node-start bs n m) n) (entry-start bs m)) m (entry-start bs m) 7 f → Bad bs f
+
+-- what of each node is known to be plain; past the end it is
+abbrev pub Marks : List Bool → List Node → Type 0
+Marks marks ns = (k : ℕ) → getD marks k true ≡ plain (of (concepts ns) k)
+
+-- node i from an offset on is granted, and its mark is answered, or it is refused
+abbrev pub Node-checked : List ℕ → ℕ → ℕ → Result Bool CheckFault → Type 0
+Node-checked bs from i (Ok mark) = (node-refusal-in bs from i ≡ 0) × (mark ≡ plain (read (concepts (nodes-in bs from i)) (node-of (raw-node-at bs (from + 5 * i))))) × Bytes-from bs (from + 5 * i) 5
+Node-checked bs from i (Err f) = (node-refusal-in bs from i ≡ check-fault-number f) × (check-fault-place f ≡ from + 5 * i)
+
+-- n nodes from an offset on are granted, and these are their marks, or one is the first that is refused
+abbrev pub Nodes-checked : List ℕ → ℕ → ℕ → List Bool → Result (Unit {0}) CheckFault → Type 0
+Nodes-checked bs from n marks (Ok u) = Granted (node-refusal-in bs from) n × Marks marks (nodes-in bs from n) × Bytes-from bs from (5 * n)
+Nodes-checked bs from n marks (Err f) = First-refused (node-refusal-in bs from) n from 5 f
+
+-- the same of an entry and of entries, over these nodes
+abbrev pub Entry-checked : List ℕ → List Node → ℕ → ℕ → Result (Unit {0}) CheckFault → Type 0
+Entry-checked bs ns from j (Ok u) = (entry-refusal-in bs ns from j ≡ 0) × Bytes-from bs (from + 7 * j) 7
+Entry-checked bs ns from j (Err f) = (entry-refusal-in bs ns from j ≡ check-fault-number f) × (check-fault-place f ≡ from + 7 * j)
+
+abbrev pub Entries-checked : List ℕ → List Node → ℕ → ℕ → Result (Unit {0}) CheckFault → Type 0
+Entries-checked bs ns from m (Ok u) = Granted (entry-refusal-in bs ns from) m × Bytes-from bs from (7 * m)
+Entries-checked bs ns from m (Err f) = First-refused (entry-refusal-in bs ns from) m from 7 f
+
+-- the counts of bytes that pass, or the first thing wrong with them
+abbrev pub Counts-answer : List ℕ → Result Counts CheckFault → Type 0
+Counts-answer bs (Ok c) = Passes bs (c .nodes) (c .entries) × Bytes-from bs (node-start bs (c .nodes) (c .entries)) (records-length (c .nodes) (c .entries) + 8)
+Counts-answer bs (Err f) = Bad bs f
+
+-- passed: the bytes are a sealed book; refused: they are none, and this is the first thing wrong
+abbrev pub Check-answer : List ℕ → Result (Unit {0}) CheckFault → Type 0
+Check-answer bs (Ok u) = Sealed bs
+Check-answer bs (Err f) = (Sealed bs → ⊥) × Bad bs f
+
+-- sealed: the writing stands at the front of the buffer, the rest of which is as it was; refused:
+-- the buffer is too short for the writing, and nothing changed
+abbrev pub Seal-answer : Book → List ℕ → List ℕ → Result ℕ SealFault → Type 0
+Seal-answer bk out out′ (Ok n) = (n ≡ length (written bk)) × (out′ ≡ written bk ++ drop n out)
+Seal-answer bk out out′ (Err f) =
+    (length out < length (written bk)) × (seal-fault-number f ≡ 20) × (seal-fault-place f ≡ length out) × (out′ ≡ out)

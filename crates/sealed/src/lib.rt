@@ -1,0 +1,5 @@
+// Sealed books: check tests the bytes, a sealed book reads within them, seal writes them.
+mod bytes;
+pub mod check;
+pub mod counts;
+pub mod faults;
