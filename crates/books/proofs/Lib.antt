@@ -4,3 +4,7 @@ pub mod Exact
 pub mod Changes
 -- lists of records
 pub mod Appending
+-- the records of a journal
+pub mod Replays
+-- what a journal keeps over its calls
+pub mod Keeping

@@ -4,3 +4,5 @@ pub mod Faults
 pub mod Answers
 -- lists of records
 pub mod Writing
+-- what the records of a journal mean
+pub mod Replay

@@ -1,7 +1,9 @@
 // Rule books: what a book is to its readers and to those who write in it, the tests of an offered
-// record, and the slot table.
+// record, the slot table, and the journal.
 pub mod book;
 pub mod faults;
+pub mod journal;
+pub mod journal_record;
 mod lines;
 mod lists;
 mod marked;
