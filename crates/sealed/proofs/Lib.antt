@@ -8,3 +8,5 @@ pub mod Rows
 pub mod Passing
 -- a sealed book passes and reads back
 pub mod Sealing
+-- the steps of the check
+pub mod Checking

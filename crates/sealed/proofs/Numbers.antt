@@ -1,7 +1,6 @@
 -- Bytes at an offset, and the numbers that they write. Assumes nothing.
 use Prim.Native.Nat.{ℕ, zero, suc, _+_, _*_, _/_, _%_, _<_, _≤_}
-use mathlib.Core.Logic.{inl, inr}
-use mathlib.Core.Path.{_≡_, refl, sym, ap, subst, _∙_}
+use mathlib.Core.Path.{_≡_, refl, sym, ap, _∙_}
 use mathlib.Core.List.{List, [], _∷_, _++_, map}
 use native.Mathlib.Nat.{mod-add-div}
 use native.Mathlib.Omega.{arith}
@@ -9,8 +8,7 @@ use lib.ListN.{length, getD, take, drop}
 use Rattle.std.specs.Iters.{counting}
 use Rattle.std.specs.Joined.{joined}
 use Rattle.std.proofs.shelf.Lists.{getD-drop, drop-more, length-append, drop-at, drop-drop}
-use Rattle.std.proofs.shelf.Tests.{cases-lt}
-use Rattle.sealed.specs.Reading.{byte-at, Bytes-from}
+use Rattle.sealed.specs.Reading.{byte-at}
 
 -- the bytes that are written at an offset
 pub byte-written : (bs xs : List ℕ) (from k j : ℕ) → from + k ≡ j → drop from bs ≡ xs → byte-at bs j ≡ byte-at xs k
@@ -45,10 +43,3 @@ module _ {X : Type 0} (f : X → List ℕ) (size : ℕ) (sized : (x : X) → len
   drop-joined (x ∷ xs) (suc i) h =
       let more : size * suc i ≡ size + size * i = omega arith in
       ap (λ k. drop k (f x ++ joined f xs)) more ∙ sym (drop-drop (size * i) size (f x ++ joined f xs)) ∙ ap (drop (size * i)) (drop-at (f x) (joined f xs) size (sized x)) ∙ drop-joined xs i (omega arith)
-
--- bytes, one stretch after the other
-pub byte-small : (bs : List ℕ) (from : ℕ) → byte-at bs from < 256 → Bytes-from bs from 1
-byte-small bs from h k l u = let e : from ≡ k = omega arith in subst (λ j. byte-at bs j < 256) e h
-
-pub bytes-join : (bs : List ℕ) (from mid n m : ℕ) → from + n ≡ mid → Bytes-from bs from n → Bytes-from bs mid m → Bytes-from bs from (n + m)
-bytes-join bs from mid n m e f g k l u = elim (cases-lt k mid) [ inl h ↦ f k l (omega arith) | inr h ↦ g k h (omega arith) ]

@@ -5,7 +5,7 @@ use mathlib.Core.Path.{_≡_, refl, sym, ap, subst, _∙_}
 use mathlib.Core.List.{List, [], _∷_, _++_, map}
 use native.Mathlib.Numerals.{add-one}
 use native.Mathlib.Omega.{arith}
-use lib.Dec.{eqb, leb, ltb, lit<}
+use lib.Dec.{eqb, leb, ltb}
 use lib.ListN.{length, take, drop}
 use lib.Seq.{take-add}
 use Rattle.std.specs.Joined.{joined}
@@ -18,7 +18,7 @@ use Rattle.logic.specs.Lawful.{Lawful}
 use Rattle.logic.proofs.Lawfulness.{lawful-empty}
 use Rattle.logic.proofs.Refusing.{node-granted, entry-granted-line}
 use Rattle.sealed.specs.Writing.{node-bytes, line-bytes, u16-bytes, u32-bytes, records-length, trailer-bytes, written, Sealed-as}
-use Rattle.sealed.specs.Reading.{byte-at, Bytes-from, u16-at, u32-at, raw-node-at, raw-entry-at, line-at-offset, nodes-in, lines-in, node-total, entry-total, distance, framed, node-start, entry-start, sealed-book, node-refusal-in, entry-refusal-in}
+use Rattle.sealed.specs.Reading.{byte-at, u16-at, u32-at, raw-node-at, raw-entry-at, line-at-offset, nodes-in, lines-in, node-total, entry-total, distance, framed, node-start, entry-start, sealed-book, node-refusal-in, entry-refusal-in}
 use Rattle.sealed.specs.Checks.{Granted, Passes}
 use Rattle.sealed.proofs.Numbers.{bytes-from}
 use Rattle.sealed.proofs.Records.{two-bytes, node-writes, line-writes}
@@ -59,12 +59,12 @@ module _ (bs : List ℕ) (from : ℕ) where
       let grown = node-granted (only (nodes-in bs from i)) (raw-node-at bs (from + 5 * i)) (g i (omega arith)) .1 before in
       subst (λ ns. Lawful (only ns)) (sym (nodes-in-more bs from i) ∙ ap (nodes-in bs from) (add-one i)) grown
 
-  pub nodes-written : (i : ℕ) → Granted (node-refusal-in bs from) i → from + 5 * i ≤ length bs → Bytes-from bs from (5 * i) → take (5 * i) (drop from bs) ≡ joined node-bytes (nodes-in bs from i)
-  nodes-written zero g within small = ap (joined node-bytes) (sym (nodes-in-none bs from))
-  nodes-written (suc i) g within small =
-      let before = nodes-written i (λ k h. g k (omega arith)) (omega arith) (λ k l h. small k l (omega arith)) in
+  pub nodes-written : ((k : ℕ) → byte-at bs k < 256) → (i : ℕ) → Granted (node-refusal-in bs from) i → from + 5 * i ≤ length bs → take (5 * i) (drop from bs) ≡ joined node-bytes (nodes-in bs from i)
+  nodes-written bytes zero g within = ap (joined node-bytes) (sym (nodes-in-none bs from))
+  nodes-written bytes (suc i) g within =
+      let before = nodes-written bytes i (λ k h. g k (omega arith)) (omega arith) in
       let w = node-granted (only (nodes-in bs from i)) (raw-node-at bs (from + 5 * i)) (g i (omega arith)) .0 in
-      let here = node-writes bs (from + 5 * i) _ w (omega arith) (λ k l h. small k (omega arith) (omega arith)) in
+      let here = node-writes bs bytes (from + 5 * i) _ w (omega arith) in
       let size : 5 * suc i ≡ 5 * i + 5 = omega arith in
       ap (λ k. take k (drop from bs)) size
       ∙ take-add (5 * i) 5 (drop from bs)
@@ -85,12 +85,12 @@ module _ (bs : List ℕ) (from : ℕ) (ns : List Node) where
       let grown = entry-granted-line (over j) (raw-entry-at bs (from + 7 * j)) (ltb (byte-at bs (from + 7 * j)) 16) (g j (omega arith)) .1 before in
       subst (λ ls. Lawful (record { nodes = ns; lines = ls })) (sym (lines-in-more bs from j) ∙ ap (lines-in bs from) (add-one j)) grown
 
-  pub lines-written : (j : ℕ) → Granted (entry-refusal-in bs ns from) j → from + 7 * j ≤ length bs → Bytes-from bs from (7 * j) → take (7 * j) (drop from bs) ≡ joined line-bytes (lines-in bs from j)
-  lines-written zero g within small = ap (joined line-bytes) (sym (lines-in-none bs from))
-  lines-written (suc j) g within small =
-      let before = lines-written j (λ k h. g k (omega arith)) (omega arith) (λ k l h. small k l (omega arith)) in
+  pub lines-written : ((k : ℕ) → byte-at bs k < 256) → (j : ℕ) → Granted (entry-refusal-in bs ns from) j → from + 7 * j ≤ length bs → take (7 * j) (drop from bs) ≡ joined line-bytes (lines-in bs from j)
+  lines-written bytes zero g within = ap (joined line-bytes) (sym (lines-in-none bs from))
+  lines-written bytes (suc j) g within =
+      let before = lines-written bytes j (λ k h. g k (omega arith)) (omega arith) in
       let w = entry-granted-line (over j) (raw-entry-at bs (from + 7 * j)) (ltb (byte-at bs (from + 7 * j)) 16) (g j (omega arith)) .0 in
-      let here = line-writes bs (from + 7 * j) _ w (omega arith) (λ k l h. small k (omega arith) (omega arith)) in
+      let here = line-writes bs bytes (from + 7 * j) _ w (omega arith) in
       let size : 7 * suc j ≡ 7 * j + 7 = omega arith in
       ap (λ k. take k (drop from bs)) size
       ∙ take-add (7 * j) 7 (drop from bs)
@@ -104,28 +104,24 @@ passed-lawful bs n m p =
     lines-lawful bs (entry-start bs m) (nodes-in bs (node-start bs n m) n) (nodes-lawful bs (node-start bs n m) n (p .nodes)) m (p .entries)
 
 -- the eight bytes of a trailer
-trailer-from : (bs : List ℕ) (from n m d : ℕ) → from + 8 ≡ length bs → u16-at bs from ≡ n → u16-at bs (from + 2) ≡ m → u32-at bs (from + 4) ≡ d → Bytes-from bs from 8 → drop from bs ≡ u16-bytes n ++ (u16-bytes m ++ u32-bytes d)
-trailer-from bs from n m d end nodes entries far small =
+trailer-from : (bs : List ℕ) → ((k : ℕ) → byte-at bs k < 256) → (from n m d : ℕ) → from + 8 ≡ length bs → u16-at bs from ≡ n → u16-at bs (from + 2) ≡ m → u32-at bs (from + 4) ≡ d → drop from bs ≡ u16-bytes n ++ (u16-bytes m ++ u32-bytes d)
+trailer-from bs bytes from n m d end nodes entries far =
     let two : ℕ → List ℕ = λ k. map (byte-at bs) (k ∷ (k + 1) ∷ []) in
-    let byte : (k : ℕ) → k < 8 → byte-at bs (from + k) < 256 = λ k h. small (from + k) (omega arith) (omega arith) in
-    let next : from + 4 + 1 ≡ from + 5 = omega arith in
-    let fifth : byte-at bs (from + 4 + 1) < 256 = subst (λ k. byte-at bs k < 256) (sym next) (byte 5 (lit< tt)) in
-    let sum : u16-at bs (from + 4) < 65536 = omega (arith, byte 4 (lit< tt), fifth) in
+    let sum : u16-at bs (from + 4) < 65536 = omega (arith, bytes (from + 4), bytes (from + 4 + 1)) in
     let sixth : from + 4 + 2 ≡ from + 6 = omega arith in
     let low : u16-at bs (from + 4) ≡ d % 65536 = omega (arith, sum, far) in
     let high : u16-at bs (from + 6) ≡ d / 65536 = ap (u16-at bs) (sym sixth) ∙ omega (arith, sum, far) in
     let p₂ : from + 1 + 1 ≡ from + 2 = omega arith in
     let p₄ : from + 1 + 1 + 1 + 1 ≡ from + 4 = omega arith in
     let p₆ : from + 1 + 1 + 1 + 1 + 1 + 1 ≡ from + 6 = omega arith in
-    let b₀ : byte-at bs from < 256 = small from (omega arith) (omega arith) in
     sym (take-all 8 (drop from bs) (rw length-drop (omega arith)))
     ∙ bytes-from bs from 8 (omega arith)
     ∙ (λ i. two from ++ (two (p₂ i) ++ (two (p₄ i) ++ two (p₆ i))))
-    ∙ (λ i. two-bytes bs from from n b₀ nodes i ++ (two-bytes bs from (from + 2) m (byte 2 (lit< tt)) entries i ++ (two-bytes bs from (from + 4) (d % 65536) (byte 4 (lit< tt)) low i ++ two-bytes bs from (from + 6) (d / 65536) (byte 6 (lit< tt)) high i)))
+    ∙ (λ i. two-bytes bs bytes from from n nodes i ++ (two-bytes bs bytes from (from + 2) m entries i ++ (two-bytes bs bytes from (from + 4) (d % 65536) low i ++ two-bytes bs bytes from (from + 6) (d / 65536) high i)))
 
-pub passed-sealed : (bs : List ℕ) (n m : ℕ) → Passes bs n m → Bytes-from bs (node-start bs n m) (records-length n m + 8) → Sealed-as bs (sealed-book bs n m)
+pub passed-sealed : (bs : List ℕ) (n m : ℕ) → Passes bs n m → ((k : ℕ) → byte-at bs k < 256) → Sealed-as bs (sealed-book bs n m)
 unfolding written node-total entry-total distance
-passed-sealed bs n m p small =
+passed-sealed bs n m p bytes =
     let f = frame-parts bs n m (p .fits) (p .nodes-are) (p .entries-are) in
     let s = node-start bs n m in
     let e = entry-start bs m in
@@ -134,11 +130,11 @@ passed-sealed bs n m p small =
     let ls = lines-in bs e m in
     let s-e : s + 5 * n ≡ e = omega (arith, f .within, f .long) in
     let e-t : e + 7 * m ≡ t = omega (arith, f .within, f .long) in
-    let nodes = nodes-written bs s n (p .nodes) (omega (arith, f .within, f .long)) (λ k l h. small k l (omega arith)) in
-    let lines = lines-written bs e ns m (p .entries) (omega (arith, f .within, f .long)) (λ k l h. small k (omega (arith, f .within, f .long)) (omega (arith, f .within, f .long))) in
+    let nodes = nodes-written bs s bytes n (p .nodes) (omega (arith, f .within, f .long)) in
+    let lines = lines-written bs e ns bytes m (p .entries) (omega (arith, f .within, f .long)) in
     let six : length bs - 6 ≡ t + 2 = omega (arith, f .long) in
     let four : length bs - 4 ≡ t + 4 = omega (arith, f .long) in
-    let trailer = trailer-from bs t n m (records-length n m) (omega (arith, f .long)) (sym (p .nodes-are)) (ap (u16-at bs) (sym six) ∙ sym (p .entries-are)) (ap (u32-at bs) (sym four) ∙ f .distance-is) (λ k l h. small k (omega (arith, f .within, f .long)) (omega (arith, f .within, f .long))) in
+    let trailer = trailer-from bs bytes t n m (records-length n m) (omega (arith, f .long)) (sym (p .nodes-are)) (ap (u16-at bs) (sym six) ∙ sym (p .entries-are)) (ap (u32-at bs) (sym four) ∙ f .distance-is) in
     let after-lines : drop e bs ≡ joined line-bytes ls ++ trailer-bytes n m =
       sym (take-append-drop (7 * m) (drop e bs)) ∙ (λ i. lines i ++ (drop-drop (7 * m) e bs ∙ ap (λ k. drop k bs) e-t ∙ trailer) i) in
     let after-nodes : drop s bs ≡ joined node-bytes ns ++ (joined line-bytes ls ++ trailer-bytes n m) =

@@ -17,7 +17,7 @@ use Rattle.logic.specs.Written.{node-kind, node-a, node-b, entry-kind, entry-a,
 use Rattle.logic.specs.Lawful.{entry-known}
 use Rattle.logic.specs.Refusals.{Writes-node, Writes-entry}
 use Rattle.sealed.specs.Writing.{u16-bytes, node-bytes, line-bytes}
-use Rattle.sealed.specs.Reading.{byte-at, Bytes-from, u16-at, raw-node-at, raw-entry-at, line-at-offset}
+use Rattle.sealed.specs.Reading.{byte-at, u16-at, raw-node-at, raw-entry-at, line-at-offset}
 use Rattle.sealed.proofs.Numbers.{byte-written, u16-from, low-byte, high-byte, bytes-from}
 
 module _ (bs rest : List ℕ) (from : ℕ) where
@@ -53,19 +53,19 @@ module _ (bs rest : List ℕ) (from : ℕ) where
         c = u16-from _ _ (entry-c e) (at 5 (from + 5) refl) (at 6 (from + 5 + 1) (omega arith));
       }, km .1)
 
-module _ (bs : List ℕ) (from : ℕ) where
+module _ (bs : List ℕ) (bytes : (k : ℕ) → byte-at bs k < 256) (from : ℕ) where
   -- the two bytes of a number
-  pub two-bytes : (j n : ℕ) → byte-at bs j < 256 → u16-at bs j ≡ n → map (byte-at bs) (j ∷ (j + 1) ∷ []) ≡ u16-bytes n
-  two-bytes j n small is =
-      let low : byte-at bs j ≡ n % 256 = sym (low-byte (byte-at bs j) (byte-at bs (j + 1)) small) ∙ ap (λ x. x % 256) is in
-      let high : byte-at bs (j + 1) ≡ n / 256 = sym (high-byte (byte-at bs j) (byte-at bs (j + 1)) small) ∙ ap (λ x. x / 256) is in
+  pub two-bytes : (j n : ℕ) → u16-at bs j ≡ n → map (byte-at bs) (j ∷ (j + 1) ∷ []) ≡ u16-bytes n
+  two-bytes j n is =
+      let low : byte-at bs j ≡ n % 256 = sym (low-byte (byte-at bs j) (byte-at bs (j + 1)) (bytes j)) ∙ ap (λ x. x % 256) is in
+      let high : byte-at bs (j + 1) ≡ n / 256 = sym (high-byte (byte-at bs j) (byte-at bs (j + 1)) (bytes j)) ∙ ap (λ x. x / 256) is in
       λ i. low i ∷ high i ∷ []
 
-  pub node-writes : (n : Node) → Writes-node (raw-node-at bs from) n → from + 5 ≤ length bs → Bytes-from bs from 5 → take 5 (drop from bs) ≡ node-bytes n
-  node-writes n w within small =
+  pub node-writes : (n : Node) → Writes-node (raw-node-at bs from) n → from + 5 ≤ length bs → take 5 (drop from bs) ≡ node-bytes n
+  node-writes n w within =
       let two : ℕ → List ℕ = λ k. map (byte-at bs) (k ∷ (k + 1) ∷ []) in
-      let a = two-bytes (from + 1) (node-a n) (small (from + 1) (omega arith) (omega arith)) (w .a) in
-      let b = two-bytes (from + 3) (node-b n) (small (from + 3) (omega arith) (omega arith)) (w .b) in
+      let a = two-bytes (from + 1) (node-a n) (w .a) in
+      let b = two-bytes (from + 3) (node-b n) (w .b) in
       let third : from + 1 + 1 + 1 ≡ from + 3 = omega arith in
       bytes-from bs from 5 within
       ∙ (λ i. w .kind i ∷ (two (from + 1) ++ two (third i)))
@@ -74,13 +74,13 @@ module _ (bs : List ℕ) (from : ℕ) where
   whole-kind : (byte kind : ℕ) → cond (ltb byte 16) byte (byte - 16) ≡ kind → byte ≡ kind + cond (ltb byte 16) 0 16
   whole-kind byte kind is = grind (arith, tells)
 
-  pub line-writes : (e : Entry) → Writes-entry (raw-entry-at bs from) e → from + 7 ≤ length bs → Bytes-from bs from 7 → take 7 (drop from bs) ≡ line-bytes (record { entry = e; live = ltb (byte-at bs from) 16 })
-  line-writes e w within small =
+  pub line-writes : (e : Entry) → Writes-entry (raw-entry-at bs from) e → from + 7 ≤ length bs → take 7 (drop from bs) ≡ line-bytes (record { entry = e; live = ltb (byte-at bs from) 16 })
+  line-writes e w within =
       let kind = whole-kind (byte-at bs from) (entry-kind e) (w .kind) in
       let two : ℕ → List ℕ = λ k. map (byte-at bs) (k ∷ (k + 1) ∷ []) in
-      let a = two-bytes (from + 1) (entry-a e) (small (from + 1) (omega arith) (omega arith)) (w .a) in
-      let b = two-bytes (from + 3) (entry-b e) (small (from + 3) (omega arith) (omega arith)) (w .b) in
-      let c = two-bytes (from + 5) (entry-c e) (small (from + 5) (omega arith) (omega arith)) (w .c) in
+      let a = two-bytes (from + 1) (entry-a e) (w .a) in
+      let b = two-bytes (from + 3) (entry-b e) (w .b) in
+      let c = two-bytes (from + 5) (entry-c e) (w .c) in
       let third : from + 1 + 1 + 1 ≡ from + 3 = omega arith in
       let fifth : from + 1 + 1 + 1 + 1 + 1 ≡ from + 5 = omega arith in
       bytes-from bs from 7 within

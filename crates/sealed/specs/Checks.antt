@@ -17,8 +17,8 @@ use Rattle.sealed.specs.declared.faults.CheckFault.{CheckFault}
 use Rattle.sealed.specs.declared.faults.CheckFault.the-variants as checks
 use Rattle.sealed.specs.declared.faults.SealFault.{SealFault}
 use Rattle.sealed.specs.declared.faults.SealFault.the-variants as seals
-use Rattle.sealed.specs.Writing.{records-length, written, Sealed}
-use Rattle.sealed.specs.Reading.{Bytes-from, raw-node-at, framed, node-total, entry-total, node-start, entry-start, nodes-in, node-refusal-in, entry-refusal-in}
+use Rattle.sealed.specs.Writing.{written, Sealed}
+use Rattle.sealed.specs.Reading.{raw-node-at, framed, node-total, entry-total, node-start, entry-start, nodes-in, node-refusal-in, entry-refusal-in}
 
 abbrev pub check-fault-number : CheckFault → ℕ
 check-fault-number (checks.BadFrame length) = 19
@@ -77,26 +77,26 @@ Marks marks ns = (k : ℕ) → getD marks k true ≡ plain (of (concepts ns) k)
 
 -- node i from an offset on is granted, and its mark is answered, or it is refused
 abbrev pub Node-checked : List ℕ → ℕ → ℕ → Result Bool CheckFault → Type 0
-Node-checked bs from i (Ok mark) = (node-refusal-in bs from i ≡ 0) × (mark ≡ plain (read (concepts (nodes-in bs from i)) (node-of (raw-node-at bs (from + 5 * i))))) × Bytes-from bs (from + 5 * i) 5
+Node-checked bs from i (Ok mark) = (node-refusal-in bs from i ≡ 0) × (mark ≡ plain (read (concepts (nodes-in bs from i)) (node-of (raw-node-at bs (from + 5 * i)))))
 Node-checked bs from i (Err f) = (node-refusal-in bs from i ≡ check-fault-number f) × (check-fault-place f ≡ from + 5 * i)
 
 -- n nodes from an offset on are granted, and these are their marks, or one is the first that is refused
 abbrev pub Nodes-checked : List ℕ → ℕ → ℕ → List Bool → Result (Unit {0}) CheckFault → Type 0
-Nodes-checked bs from n marks (Ok u) = Granted (node-refusal-in bs from) n × Marks marks (nodes-in bs from n) × Bytes-from bs from (5 * n)
+Nodes-checked bs from n marks (Ok u) = Granted (node-refusal-in bs from) n × Marks marks (nodes-in bs from n)
 Nodes-checked bs from n marks (Err f) = First-refused (node-refusal-in bs from) n from 5 f
 
 -- the same of an entry and of entries, over these nodes
 abbrev pub Entry-checked : List ℕ → List Node → ℕ → ℕ → Result (Unit {0}) CheckFault → Type 0
-Entry-checked bs ns from j (Ok u) = (entry-refusal-in bs ns from j ≡ 0) × Bytes-from bs (from + 7 * j) 7
+Entry-checked bs ns from j (Ok u) = entry-refusal-in bs ns from j ≡ 0
 Entry-checked bs ns from j (Err f) = (entry-refusal-in bs ns from j ≡ check-fault-number f) × (check-fault-place f ≡ from + 7 * j)
 
 abbrev pub Entries-checked : List ℕ → List Node → ℕ → ℕ → Result (Unit {0}) CheckFault → Type 0
-Entries-checked bs ns from m (Ok u) = Granted (entry-refusal-in bs ns from) m × Bytes-from bs from (7 * m)
+Entries-checked bs ns from m (Ok u) = Granted (entry-refusal-in bs ns from) m
 Entries-checked bs ns from m (Err f) = First-refused (entry-refusal-in bs ns from) m from 7 f
 
 -- the counts of bytes that pass, or the first thing wrong with them
 abbrev pub Counts-answer : List ℕ → Result Counts CheckFault → Type 0
-Counts-answer bs (Ok c) = Passes bs (c .nodes) (c .entries) × Bytes-from bs (node-start bs (c .nodes) (c .entries)) (records-length (c .nodes) (c .entries) + 8)
+Counts-answer bs (Ok c) = Passes bs (c .nodes) (c .entries)
 Counts-answer bs (Err f) = Bad bs f
 
 -- passed: the bytes are a sealed book; refused: they are none, and this is the first thing wrong

@@ -2,7 +2,7 @@
 -- nodes-in, lines-in: the records from an offset on. framed: the trailer fits the bytes.
 -- sealed-book: the book of given counts that ends before the trailer.
 -- Assumes nothing.
-use Prim.Native.Nat.{ℕ, _+_, _-_, _*_, _<_, _≤_}
+use Prim.Native.Nat.{ℕ, _+_, _-_, _*_}
 use mathlib.Core.Bool.{Bool, cond, _&&_}
 use mathlib.Core.List.{List, [], map}
 use lib.Dec.{eqb, ltb, leb}
@@ -19,10 +19,6 @@ use Rattle.sealed.specs.Writing.{records-length}
 
 abbrev pub byte-at : List ℕ → ℕ → ℕ
 byte-at bs i = getD bs i 0
-
--- n bytes from an offset on are bytes indeed
-abbrev pub Bytes-from : List ℕ → ℕ → ℕ → Type 0
-Bytes-from bs from n = (k : ℕ) → from ≤ k → k < from + n → byte-at bs k < 256
 
 -- a number of 16 bits, low byte first
 abbrev pub u16-at : List ℕ → ℕ → ℕ
