@@ -26,7 +26,8 @@ use Rattle.books.proofs.Replays.{getD-push-other}
 use Rattle.sealed.specs.declared.faults.CheckFault.{CheckFault}
 use Rattle.sealed.specs.declared.faults.CheckFault.the-variants as checks
 use Rattle.sealed.specs.Writing.{Sealed}
-use Rattle.sealed.specs.Checks.{check-fault-number, Granted, Passes, First-refused, Bad, Marks}
+use Rattle.sealed.specs.Faults.{check-fault-number}
+use Rattle.sealed.specs.Checks.{Granted, Passes, First-refused, Bad, Marks}
 use Rattle.sealed.proofs.Sealing.{sealed-passes}
 
 -- a book that is not full has another reason to refuse

@@ -10,3 +10,7 @@ pub mod Passing
 pub mod Sealing
 -- the steps of the check
 pub mod Checking
+-- what is opened
+pub mod Opening
+-- writing one record after the other
+pub mod Writings

@@ -4,43 +4,21 @@
 use Prim.Native.Nat.{ℕ, _+_, _*_, _<_, _≤_}
 use mathlib.Core.Bool.{Bool, true, false}
 use mathlib.Core.Path.{_≡_}
-use mathlib.Core.List.{List, _++_}
+use mathlib.Core.Logic.{_⊎_}
+use mathlib.Core.List.{List, [], _++_}
 use lib.ListN.{length, getD, drop}
 use Rattle.std.specs.declared.result.Result.{Result}
 use Rattle.std.specs.declared.result.Result.the-variants.{Ok, Err}
 use Rattle.logic.specs.declared.records.Node.{Node}
 use Rattle.logic.specs.Written.{node-of}
 use Rattle.logic.specs.Concepts.{of, read, concepts, plain}
-use Rattle.logic.specs.Books.{Book}
+use Rattle.logic.specs.Books.{Book, empty}
 use Rattle.sealed.specs.declared.counts.Counts.{Counts}
 use Rattle.sealed.specs.declared.faults.CheckFault.{CheckFault}
-use Rattle.sealed.specs.declared.faults.CheckFault.the-variants as checks
 use Rattle.sealed.specs.declared.faults.SealFault.{SealFault}
-use Rattle.sealed.specs.declared.faults.SealFault.the-variants as seals
-use Rattle.sealed.specs.Writing.{written, Sealed}
+use Rattle.sealed.specs.Faults.{check-fault-number, check-fault-place, seal-fault-number, seal-fault-place}
+use Rattle.sealed.specs.Writing.{written, Sealed, Sealed-as}
 use Rattle.sealed.specs.Reading.{raw-node-at, framed, node-total, entry-total, node-start, entry-start, nodes-in, node-refusal-in, entry-refusal-in}
-
-abbrev pub check-fault-number : CheckFault → ℕ
-check-fault-number (checks.BadFrame length) = 19
-check-fault-number (checks.UnknownKind byte) = 2
-check-fault-number (checks.OutOfRange byte) = 3
-check-fault-number (checks.NoSuchNode byte) = 4
-check-fault-number (checks.TypicalMisplaced byte) = 5
-
--- the length of the bytes, or the first byte of the record
-abbrev pub check-fault-place : CheckFault → ℕ
-check-fault-place (checks.BadFrame length) = length
-check-fault-place (checks.UnknownKind byte) = byte
-check-fault-place (checks.OutOfRange byte) = byte
-check-fault-place (checks.NoSuchNode byte) = byte
-check-fault-place (checks.TypicalMisplaced byte) = byte
-
-abbrev pub seal-fault-number : SealFault → ℕ
-seal-fault-number (seals.TooShort length) = 20
-
--- the length of the buffer
-abbrev pub seal-fault-place : SealFault → ℕ
-seal-fault-place (seals.TooShort length) = length
 
 -- each of the first n records is granted
 abbrev pub Granted : (ℕ → ℕ) → ℕ → Type 0
@@ -110,3 +88,19 @@ abbrev pub Seal-answer : Book → List ℕ → List ℕ → Result ℕ SealFault
 Seal-answer bk out out′ (Ok n) = (n ≡ length (written bk)) × (out′ ≡ written bk ++ drop n out)
 Seal-answer bk out out′ (Err f) =
     (length out < length (written bk)) × (seal-fault-number f ≡ 20) × (seal-fault-place f ≡ length out) × (out′ ≡ out)
+
+-- check passes with these counts, or both are 0
+abbrev pub Stands : List ℕ → ℕ → ℕ → Type 0
+Stands bs n m = ∥ Passes bs n m ⊎ ((n ≡ 0) × (m ≡ 0)) ∥₁
+
+-- what a book that was sealed in these bytes is when they are opened, and what no sealed book is
+pub record Opened (bs : List ℕ) (bk : Book) : Type 0 where
+  pub sealed : (sealed : Book) → Sealed-as bs sealed → bk ≡ sealed
+  pub unsealed : (Sealed bs → ⊥) → bk ≡ empty
+
+-- These bytes are the book, sealed; no other book is sealed in them; and if the book was sealed
+-- without a note before, these are the same bytes again.
+pub record Round-trip (bk : Book) (bytes : List ℕ) : Type 0 where
+  pub sealed : Sealed-as bytes bk
+  pub only : (other : Book) → Sealed-as bytes other → other ≡ bk
+  pub same : (bs : List ℕ) (before : Sealed-as bs bk) → before .note ≡ [] → bytes ≡ bs

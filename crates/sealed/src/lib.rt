@@ -3,3 +3,5 @@ mod bytes;
 pub mod check;
 pub mod counts;
 pub mod faults;
+pub mod seal;
+pub mod sealed_book;
