@@ -3,7 +3,7 @@ ghost use mathlib.Core.Path.{_≡_};
 ghost use mathlib.Core.List.{List};
 ghost use lib.ListN.{length};
 ghost use Rattle.logic.specs.Written.{node-a, node-b, entry-a, entry-b};
-ghost use Rattle.logic.specs.Concepts.{Concept, of, read, concepts, plain, is-typical};
+ghost use Rattle.logic.specs.Concepts.{Concept, of, read, plain, is-typical};
 ghost use Rattle.logic.specs.Books.{Book, concept};
 ghost use Rattle.logic.specs.Lawful.{node-known, node-within-limits, node-operands-below, node-placed, entry-known, entry-within-limits, entry-operands-below, entry-placed};
 ghost use Rattle.logic.specs.Refusals.{node-unused-zero, entry-unused-zero};

@@ -4,7 +4,11 @@ use crate::answers::AnswerDebug;
 use crate::answers::AnswerPartialEq;
 use crate::answers::enter;
 use crate::answers::node;
+use crate::answers::strike;
 use books::book::EditableBook;
+use books::journal::Journal;
+use books::journal::JournalEditable;
+use books::journal::JournalReadable;
 use books::slot_table::SlotTable;
 use books::slot_table::SlotTableEditable;
 use books::slot_table::SlotTableReadable;
@@ -27,8 +31,10 @@ fn node_limit<B: EditableBook>(book: &mut B) -> Result<(), Fail> {
 
 #[test]
 fn node_512_is_granted_and_513_refused(rt: LibcRuntime) -> Result<(), Fail> {
-    let mut book: SlotTable = EditableBook::new(rt.alloc())?;
-    node_limit(&mut book)
+    let mut table: SlotTable = EditableBook::new(rt.alloc())?;
+    node_limit(&mut table)?;
+    let mut journal: Journal = EditableBook::new(rt.alloc())?;
+    node_limit(&mut journal)
 }
 
 fn entry_limit<B: EditableBook>(book: &mut B) -> Result<(), Fail> {
@@ -42,8 +48,10 @@ fn entry_limit<B: EditableBook>(book: &mut B) -> Result<(), Fail> {
 
 #[test]
 fn entry_256_is_granted_and_257_refused(rt: LibcRuntime) -> Result<(), Fail> {
-    let mut book: SlotTable = EditableBook::new(rt.alloc())?;
-    entry_limit(&mut book)
+    let mut table: SlotTable = EditableBook::new(rt.alloc())?;
+    entry_limit(&mut table)?;
+    let mut journal: Journal = EditableBook::new(rt.alloc())?;
+    entry_limit(&mut journal)
 }
 
 // Nodes that are refused by a book of one node, with the number of the refusal.
@@ -285,8 +293,10 @@ fn nodes_at_their_limits<B: EditableBook>(book: &mut B) -> Result<(), Fail> {
 
 #[test]
 fn nodes_are_refused_past_their_limits(rt: LibcRuntime) -> Result<(), Fail> {
-    let mut book: SlotTable = EditableBook::new(rt.alloc())?;
-    nodes_at_their_limits(&mut book)
+    let mut table: SlotTable = EditableBook::new(rt.alloc())?;
+    nodes_at_their_limits(&mut table)?;
+    let mut journal: Journal = EditableBook::new(rt.alloc())?;
+    nodes_at_their_limits(&mut journal)
 }
 
 // Entries that are refused by a book of one node and one entry, with the number of the refusal.
@@ -448,6 +458,27 @@ fn entries_at_their_limits<B: EditableBook>(book: &mut B) -> Result<(), Fail> {
 
 #[test]
 fn entries_are_refused_past_their_limits(rt: LibcRuntime) -> Result<(), Fail> {
-    let mut book: SlotTable = EditableBook::new(rt.alloc())?;
-    entries_at_their_limits(&mut book)
+    let mut table: SlotTable = EditableBook::new(rt.alloc())?;
+    entries_at_their_limits(&mut table)?;
+    let mut journal: Journal = EditableBook::new(rt.alloc())?;
+    entries_at_their_limits(&mut journal)
+}
+
+// 512 nodes, 256 entries and 256 strikes.
+fn filled<B: EditableBook>(book: &mut B) -> Result<(), Fail> {
+    node_limit(book)?;
+    entry_limit(book)?;
+    for i in 0..256u16 {
+        check_eq(strike(book, i), Answer::Granted(i))?;
+    }
+    check_eq(strike(book, 0), Answer::Refused(6, 0))?;
+    check(!book.entry_at(255).live)
+}
+
+#[test]
+fn a_full_book_takes_every_strike(rt: LibcRuntime) -> Result<(), Fail> {
+    let mut table: SlotTable = EditableBook::new(rt.alloc())?;
+    filled(&mut table)?;
+    let mut journal: Journal = EditableBook::new(rt.alloc())?;
+    filled(&mut journal)
 }

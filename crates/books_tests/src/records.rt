@@ -5,6 +5,9 @@ use crate::answers::AnswerPartialEq;
 use crate::answers::strike;
 use books::book::EditableBook;
 use books::book::ReadableBook;
+use books::journal::Journal;
+use books::journal::JournalEditable;
+use books::journal::JournalReadable;
 use books::sample;
 use books::slot_table::SlotTable;
 use books::slot_table::SlotTableEditable;
@@ -45,8 +48,10 @@ fn reads_back<B: EditableBook>(book: &mut B) -> Result<(), Fail> {
 
 #[test]
 fn records_read_back_as_offered(rt: LibcRuntime) -> Result<(), Fail> {
-    let mut book: SlotTable = EditableBook::new(rt.alloc())?;
-    reads_back(&mut book)
+    let mut table: SlotTable = EditableBook::new(rt.alloc())?;
+    reads_back(&mut table)?;
+    let mut journal: Journal = EditableBook::new(rt.alloc())?;
+    reads_back(&mut journal)
 }
 
 fn absent_from<B: ReadableBook>(book: &B, nodes: u16, entries: u16) -> Result<(), Fail> {
@@ -58,12 +63,18 @@ fn absent_from<B: ReadableBook>(book: &B, nodes: u16, entries: u16) -> Result<()
     check(!book.entry_at(65535).live)
 }
 
+fn past_the_end<B: EditableBook>(book: &mut B) -> Result<(), Fail> {
+    absent_from(book, 0, 0)?;
+    reads_back(book)?;
+    absent_from(book, 7, 3)
+}
+
 #[test]
 fn nothing_stands_past_the_end(rt: LibcRuntime) -> Result<(), Fail> {
-    let mut book: SlotTable = EditableBook::new(rt.alloc())?;
-    absent_from(&book, 0, 0)?;
-    reads_back(&mut book)?;
-    absent_from(&book, 7, 3)
+    let mut table: SlotTable = EditableBook::new(rt.alloc())?;
+    past_the_end(&mut table)?;
+    let mut journal: Journal = EditableBook::new(rt.alloc())?;
+    past_the_end(&mut journal)
 }
 
 fn strikes<B: EditableBook>(book: &mut B) -> Result<(), Fail> {
@@ -80,6 +91,8 @@ fn strikes<B: EditableBook>(book: &mut B) -> Result<(), Fail> {
 
 #[test]
 fn an_entry_is_struck_once(rt: LibcRuntime) -> Result<(), Fail> {
-    let mut book: SlotTable = EditableBook::new(rt.alloc())?;
-    strikes(&mut book)
+    let mut table: SlotTable = EditableBook::new(rt.alloc())?;
+    strikes(&mut table)?;
+    let mut journal: Journal = EditableBook::new(rt.alloc())?;
+    strikes(&mut journal)
 }

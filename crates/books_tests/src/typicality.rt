@@ -5,6 +5,9 @@ use crate::answers::AnswerPartialEq;
 use crate::answers::enter;
 use crate::answers::node;
 use books::book::EditableBook;
+use books::journal::Journal;
+use books::journal::JournalEditable;
+use books::journal::JournalReadable;
 use books::slot_table::SlotTable;
 use books::slot_table::SlotTableEditable;
 use books::slot_table::SlotTableReadable;
@@ -61,8 +64,10 @@ fn below_all_some_and_typical<B: EditableBook>(book: &mut B) -> Result<(), Fail>
 
 #[test]
 fn typicality_stands_nowhere_below_all_some_and_typical(rt: LibcRuntime) -> Result<(), Fail> {
-    let mut book: SlotTable = EditableBook::new(rt.alloc())?;
-    below_all_some_and_typical(&mut book)
+    let mut table: SlotTable = EditableBook::new(rt.alloc())?;
+    below_all_some_and_typical(&mut table)?;
+    let mut journal: Journal = EditableBook::new(rt.alloc())?;
+    below_all_some_and_typical(&mut journal)
 }
 
 fn in_entries<B: EditableBook>(book: &mut B) -> Result<(), Fail> {
@@ -84,6 +89,8 @@ fn in_entries<B: EditableBook>(book: &mut B) -> Result<(), Fail> {
 
 #[test]
 fn typicality_stands_on_the_left_and_in_facts(rt: LibcRuntime) -> Result<(), Fail> {
-    let mut book: SlotTable = EditableBook::new(rt.alloc())?;
-    in_entries(&mut book)
+    let mut table: SlotTable = EditableBook::new(rt.alloc())?;
+    in_entries(&mut table)?;
+    let mut journal: Journal = EditableBook::new(rt.alloc())?;
+    in_entries(&mut journal)
 }

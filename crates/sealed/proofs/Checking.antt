@@ -1,5 +1,5 @@
 -- The steps of the check: faults, marks, one record more, the whole. Assumes nothing.
-use Prim.Native.Nat.{ℕ, zero, suc, _+_, _*_, _<_, _≤_}
+use Prim.Native.Nat.{ℕ, zero, suc, _+_, _<_}
 use mathlib.Core.Bool.{Bool, true, false}
 use mathlib.Core.Logic.{inl, inr}
 use mathlib.Core.Path.{_≡_, refl, sym, ap, subst, _∙_}
@@ -9,7 +9,6 @@ use lib.Dec.{leb}
 use lib.ListN.{length, getD, set, replicate}
 use Rattle.std.proofs.shelf.Lists.{getD-set-same, getD-set-other, getD-push}
 use Rattle.std.proofs.shelf.Tests.{cases-eq, cases-lt, lt-leb, false≢true}
-use Rattle.std.proofs.shelf.Ways.{tells}
 use Rattle.logic.specs.declared.records.Node.{Node}
 use Rattle.logic.specs.declared.records.RawNode.{RawNode}
 use Rattle.logic.specs.declared.records.RawEntry.{RawEntry}
@@ -27,7 +26,8 @@ use Rattle.sealed.specs.declared.faults.CheckFault.{CheckFault}
 use Rattle.sealed.specs.declared.faults.CheckFault.the-variants as checks
 use Rattle.sealed.specs.Writing.{Sealed}
 use Rattle.sealed.specs.Faults.{check-fault-number}
-use Rattle.sealed.specs.Checks.{Granted, Passes, First-refused, Bad, Marks}
+use Rattle.sealed.specs.Checks.{Granted, Passes, First-refused, Bad}
+use Rattle.sealed.specs.Steps.{Marks}
 use Rattle.sealed.proofs.Sealing.{sealed-passes}
 
 -- a book that is not full has another reason to refuse

@@ -11,7 +11,8 @@ use Rattle.logic.specs.Lawful.{Lawful}
 use Rattle.logic.proofs.Lawfulness.{lawful-empty}
 use Rattle.sealed.specs.Writing.{records-length, written, Sealed, Sealed-as}
 use Rattle.sealed.specs.Reading.{byte-at, sealed-book, node-start, entry-start}
-use Rattle.sealed.specs.Checks.{Passes, Stands, Opened, Round-trip}
+use Rattle.sealed.specs.Checks.{Passes, Opened, Round-trip}
+use Rattle.sealed.specs.Steps.{Stands}
 use Rattle.sealed.proofs.Rows.{nodes-in-none, lines-in-none}
 use Rattle.sealed.proofs.Passing.{frame-parts, passed-lawful, passed-sealed}
 use Rattle.sealed.proofs.Sealing.{sealed-passes, sealed-reads}

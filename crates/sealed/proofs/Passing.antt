@@ -1,7 +1,7 @@
 -- Bytes that pass are a note and then the writing of a lawful book. Assumes nothing.
 use Prim.Native.Nat.{ℕ, zero, suc, _+_, _-_, _*_, _/_, _%_, _<_, _≤_}
-use mathlib.Core.Bool.{true, _&&_}
-use mathlib.Core.Path.{_≡_, refl, sym, ap, subst, _∙_}
+use mathlib.Core.Bool.{true}
+use mathlib.Core.Path.{_≡_, sym, ap, subst, _∙_}
 use mathlib.Core.List.{List, [], _∷_, _++_, map}
 use native.Mathlib.Numerals.{add-one}
 use native.Mathlib.Omega.{arith}
@@ -12,13 +12,12 @@ use Rattle.std.specs.Joined.{joined}
 use Rattle.std.proofs.shelf.Lists.{take-append-drop, drop-drop, joined-more, take-all, length-drop}
 use Rattle.std.proofs.shelf.Tests.{and-parts, leb-true, eqb-true}
 use Rattle.logic.specs.declared.records.Node.{Node}
-use Rattle.logic.specs.Written.{node-of, entry-of}
-use Rattle.logic.specs.Books.{Book, empty}
+use Rattle.logic.specs.Books.{Book}
 use Rattle.logic.specs.Lawful.{Lawful}
 use Rattle.logic.proofs.Lawfulness.{lawful-empty}
 use Rattle.logic.proofs.Refusing.{node-granted, entry-granted-line}
 use Rattle.sealed.specs.Writing.{node-bytes, line-bytes, u16-bytes, u32-bytes, records-length, trailer-bytes, written, Sealed-as}
-use Rattle.sealed.specs.Reading.{byte-at, u16-at, u32-at, raw-node-at, raw-entry-at, line-at-offset, nodes-in, lines-in, node-total, entry-total, distance, framed, node-start, entry-start, sealed-book, node-refusal-in, entry-refusal-in}
+use Rattle.sealed.specs.Reading.{byte-at, u16-at, u32-at, raw-node-at, raw-entry-at, nodes-in, lines-in, node-total, entry-total, distance, framed, node-start, entry-start, sealed-book, node-refusal-in, entry-refusal-in}
 use Rattle.sealed.specs.Checks.{Granted, Passes}
 use Rattle.sealed.proofs.Numbers.{bytes-from}
 use Rattle.sealed.proofs.Records.{two-bytes, node-writes, line-writes}
@@ -136,9 +135,9 @@ passed-sealed bs n m p bytes =
     let four : length bs - 4 ≡ t + 4 = omega (arith, f .long) in
     let trailer = trailer-from bs bytes t n m (records-length n m) (omega (arith, f .long)) (sym (p .nodes-are)) (ap (u16-at bs) (sym six) ∙ sym (p .entries-are)) (ap (u32-at bs) (sym four) ∙ f .distance-is) in
     let after-lines : drop e bs ≡ joined line-bytes ls ++ trailer-bytes n m =
-      sym (take-append-drop (7 * m) (drop e bs)) ∙ (λ i. lines i ++ (drop-drop (7 * m) e bs ∙ ap (λ k. drop k bs) e-t ∙ trailer) i) in
+    sym (take-append-drop (7 * m) (drop e bs)) ∙ (λ i. lines i ++ (drop-drop (7 * m) e bs ∙ ap (λ k. drop k bs) e-t ∙ trailer) i) in
     let after-nodes : drop s bs ≡ joined node-bytes ns ++ (joined line-bytes ls ++ trailer-bytes n m) =
-      sym (take-append-drop (5 * n) (drop s bs)) ∙ (λ i. nodes i ++ (drop-drop (5 * n) s bs ∙ ap (λ k. drop k bs) s-e ∙ after-lines) i) in
+    sym (take-append-drop (5 * n) (drop s bs)) ∙ (λ i. nodes i ++ (drop-drop (5 * n) s bs ∙ ap (λ k. drop k bs) s-e ∙ after-lines) i) in
     let counts : trailer-bytes n m ≡ trailer-bytes (length ns) (length ls) = λ i. trailer-bytes (sym (length-nodes-in bs s n) i) (sym (length-lines-in bs e m) i) in
     record {
       lawful = passed-lawful bs n m p;

@@ -1,13 +1,12 @@
 -- One record at an offset: what was written is read, and what is read was written. Assumes nothing.
-use Prim.Native.Nat.{ℕ, _+_, _-_, _*_, _/_, _%_, _<_, _≤_}
+use Prim.Native.Nat.{ℕ, _+_, _-_, _/_, _%_, _<_, _≤_}
 use mathlib.Core.Bool.{Bool, true, false, cond}
-use mathlib.Core.Logic.{inl, inr}
 use mathlib.Core.Path.{_≡_, refl, sym, ap, _∙_}
 use mathlib.Core.List.{List, [], _∷_, _++_, map}
 use native.Mathlib.Omega.{arith}
 use lib.Dec.{ltb}
 use lib.ListN.{length, take, drop}
-use Rattle.std.proofs.shelf.Tests.{cases-bool, false≢true, ltb-true, ltb-false}
+use Rattle.std.proofs.shelf.Tests.{false≢true}
 use Rattle.std.proofs.shelf.Ways.{tells}
 use Rattle.logic.specs.declared.records.Node.{Node}
 use Rattle.logic.specs.declared.records.Entry.{Entry}
@@ -17,7 +16,7 @@ use Rattle.logic.specs.Written.{node-kind, node-a, node-b, entry-kind, entry-a,
 use Rattle.logic.specs.Lawful.{entry-known}
 use Rattle.logic.specs.Refusals.{Writes-node, Writes-entry}
 use Rattle.sealed.specs.Writing.{u16-bytes, node-bytes, line-bytes}
-use Rattle.sealed.specs.Reading.{byte-at, u16-at, raw-node-at, raw-entry-at, line-at-offset}
+use Rattle.sealed.specs.Reading.{byte-at, u16-at, raw-node-at, raw-entry-at}
 use Rattle.sealed.proofs.Numbers.{byte-written, u16-from, low-byte, high-byte, bytes-from}
 
 module _ (bs rest : List ℕ) (from : ℕ) where
@@ -45,13 +44,15 @@ module _ (bs rest : List ℕ) (from : ℕ) where
   line-reads l known is =
       let e = l .entry in
       let at : (k j : ℕ) → from + k ≡ j → byte-at bs j ≡ byte-at (line-bytes l ++ rest) k = λ k j e. byte-written bs (line-bytes l ++ rest) from k j e is in
-      let km = kind-and-mark (entry-kind e) (l .live) (small-kind e known) (byte-at bs from) (at 0 from (omega arith)) in
-      (record {
-        kind = km .0;
-        a = u16-from _ _ (entry-a e) (at 1 (from + 1) refl) (at 2 (from + 1 + 1) (omega arith));
-        b = u16-from _ _ (entry-b e) (at 3 (from + 3) refl) (at 4 (from + 3 + 1) (omega arith));
-        c = u16-from _ _ (entry-c e) (at 5 (from + 5) refl) (at 6 (from + 5 + 1) (omega arith));
-      }, km .1)
+      let km = kind-and-mark (entry-kind e) (l .live) (small-kind e known) (byte-at bs from) (at 0 from (omega arith)) in (
+        record {
+          kind = km .0;
+          a = u16-from _ _ (entry-a e) (at 1 (from + 1) refl) (at 2 (from + 1 + 1) (omega arith));
+          b = u16-from _ _ (entry-b e) (at 3 (from + 3) refl) (at 4 (from + 3 + 1) (omega arith));
+          c = u16-from _ _ (entry-c e) (at 5 (from + 5) refl) (at 6 (from + 5 + 1) (omega arith));
+        },
+        km .1,
+      )
 
 module _ (bs : List ℕ) (bytes : (k : ℕ) → byte-at bs k < 256) (from : ℕ) where
   -- the two bytes of a number

@@ -1,12 +1,12 @@
 -- The writing of a lawful book, behind any note, passes and reads back as it was. Assumes nothing.
-use Prim.Native.Nat.{ℕ, zero, suc, _+_, _-_, _*_, _/_, _%_, _<_, _≤_}
-use mathlib.Core.Bool.{Bool, true, _&&_}
+use Prim.Native.Nat.{ℕ, _+_, _-_, _*_, _/_, _%_, _<_, _≤_}
+use mathlib.Core.Bool.{Bool, true}
 use mathlib.Core.Path.{_≡_, refl, sym, ap, subst, _∙_}
 use mathlib.Core.List.{List, [], _∷_, _++_}
 use native.Mathlib.Nat.{mod-add-div}
 use native.Mathlib.Omega.{arith}
-use lib.Dec.{eqb, leb, ltb}
-use lib.ListN.{length, getD, take, drop}
+use lib.Dec.{ltb}
+use lib.ListN.{length, take, drop}
 use Rattle.std.specs.Joined.{joined}
 use Rattle.std.specs.shelf.Lists.{All}
 use Rattle.std.proofs.shelf.Lists.{append-assoc, length-append, length-push, length-take-le, drop-at, drop-append-le, drop-drop, drop-more, getD-take, take-more, take-all, same-lists, getD-default}
@@ -23,8 +23,8 @@ use Rattle.logic.specs.Lawful.{Lawful, entry-known, entry-well-formed, entry-pl
 use Rattle.logic.specs.Refusals.{node-refusal, entry-refusal, Writes-node, Writes-entry}
 use Rattle.logic.proofs.Lawfulness.{node-parts, entry-parts, lawful-nodes-front, lawful-lines-front}
 use Rattle.logic.proofs.Refusing.{node-read, node-taken, entry-read, entry-taken}
-use Rattle.sealed.specs.Writing.{u16-bytes, u32-bytes, node-bytes, line-bytes, records-length, trailer-bytes, written, Sealed-as}
-use Rattle.sealed.specs.Reading.{byte-at, u16-at, u32-at, raw-node-at, raw-entry-at, line-at-offset, nodes-in, lines-in, node-total, entry-total, distance, framed, node-start, entry-start, sealed-book, node-refusal-in, entry-refusal-in}
+use Rattle.sealed.specs.Writing.{node-bytes, line-bytes, records-length, trailer-bytes, written, Sealed-as}
+use Rattle.sealed.specs.Reading.{byte-at, raw-node-at, raw-entry-at, line-at-offset, nodes-in, lines-in, node-total, entry-total, distance, framed, node-start, entry-start, sealed-book, node-refusal-in, entry-refusal-in}
 use Rattle.sealed.specs.Checks.{Granted, Passes}
 use Rattle.sealed.proofs.Numbers.{byte-written, u16-from, length-joined, drop-joined}
 use Rattle.sealed.proofs.Records.{node-reads, line-reads}
@@ -142,7 +142,7 @@ module _ (bs : List ℕ) (bk : Book) (sealed : Sealed-as bs bk) where
       let ns = bk .nodes in
       let rest = joined node-bytes (drop (i + 1) ns) in
       let here : drop (start + 5 * i) bs ≡ node-bytes (node-at bk i) ++ (rest ++ behind-nodes) =
-        from-node i (omega arith) ∙ ap (λ xs. joined node-bytes xs ++ behind-nodes) (drop-more ns i node.Absent h) ∙ append-assoc (node-bytes (node-at bk i)) rest behind-nodes in
+      from-node i (omega arith) ∙ ap (λ xs. joined node-bytes xs ++ behind-nodes) (drop-more ns i node.Absent h) ∙ append-assoc (node-bytes (node-at bk i)) rest behind-nodes in
       subst (λ s. Writes-node (raw-node-at bs (s + 5 * i)) (node-at bk i)) (sym starts) (node-reads bs (rest ++ behind-nodes) (start + 5 * i) (node-at bk i) here)
 
   node-reads-back : (i : ℕ) → i < n → node-of (raw-node-at bs (node-start bs n m + 5 * i)) ≡ node-at bk i
@@ -153,8 +153,8 @@ module _ (bs : List ℕ) (bk : Book) (sealed : Sealed-as bs bk) where
       let s = node-start bs n m in
       same-lists (nodes-in bs s i) (take i (bk .nodes)) (length-nodes-in bs s i ∙ sym (length-take-le i (bk .nodes) h))
       (λ k d l.
-        (let below : k < i = subst (λ x. k < x) (length-nodes-in bs s i) l in
-        getD-nodes-in bs s i k d below ∙ node-reads-back k (omega arith) ∙ getD-default (bk .nodes) k node.Absent d (omega arith) ∙ sym (getD-take i (bk .nodes) k d below)))
+      (let below : k < i = subst (λ x. k < x) (length-nodes-in bs s i) l in
+      getD-nodes-in bs s i k d below ∙ node-reads-back k (omega arith) ∙ getD-default (bk .nodes) k node.Absent d (omega arith) ∙ sym (getD-take i (bk .nodes) k d below)))
 
   nodes-granted : Granted (node-refusal-in bs (node-start bs n m)) n
   nodes-granted i h =
@@ -178,7 +178,7 @@ module _ (bs : List ℕ) (bk : Book) (sealed : Sealed-as bs bk) where
       let l = line-at bk j in
       let rest = joined line-bytes (drop (j + 1) ls) in
       let here : drop (start + 5 * n + 7 * j) bs ≡ line-bytes l ++ (rest ++ trailer-bytes n m) =
-        from-line j (omega arith) ∙ ap (λ xs. joined line-bytes xs ++ trailer-bytes n m) (drop-more ls j no-line h) ∙ append-assoc (line-bytes l) rest (trailer-bytes n m) in
+      from-line j (omega arith) ∙ ap (λ xs. joined line-bytes xs ++ trailer-bytes n m) (drop-more ls j no-line h) ∙ append-assoc (line-bytes l) rest (trailer-bytes n m) in
       subst (λ s. Writes-entry (raw-entry-at bs (s + 7 * j)) (l .entry) × (ltb (byte-at bs (s + 7 * j)) 16 ≡ l .live)) (sym entry-starts) (line-reads bs (rest ++ trailer-bytes n m) (start + 5 * n + 7 * j) l (known-entry j h) here)
 
   line-reads-back : (j : ℕ) → j < m → line-at-offset bs (entry-start bs m + 7 * j) ≡ line-at bk j
@@ -192,8 +192,8 @@ module _ (bs : List ℕ) (bk : Book) (sealed : Sealed-as bs bk) where
       let s = entry-start bs m in
       same-lists (lines-in bs s j) (take j (bk .lines)) (length-lines-in bs s j ∙ sym (length-take-le j (bk .lines) h))
       (λ k d l.
-        (let below : k < j = subst (λ x. k < x) (length-lines-in bs s j) l in
-        getD-lines-in bs s j k d below ∙ line-reads-back k (omega arith) ∙ getD-default (bk .lines) k no-line d (omega arith) ∙ sym (getD-take j (bk .lines) k d below)))
+      (let below : k < j = subst (λ x. k < x) (length-lines-in bs s j) l in
+      getD-lines-in bs s j k d below ∙ line-reads-back k (omega arith) ∙ getD-default (bk .lines) k no-line d (omega arith) ∙ sym (getD-take j (bk .lines) k d below)))
 
   entries-granted : Granted (entry-refusal-in bs (nodes-in bs (node-start bs n m) n) (entry-start bs m)) m
   entries-granted j h =

@@ -1,7 +1,7 @@
 -- Writing one record after the other into a buffer. Assumes nothing.
-use Prim.Native.Nat.{ℕ, _+_, _*_, _<_, _≤_}
+use Prim.Native.Nat.{ℕ, _+_, _*_, _<_}
 use mathlib.Core.Path.{_≡_, refl, sym, ap, _∙_}
-use mathlib.Core.List.{List, [], _∷_, _++_}
+use mathlib.Core.List.{List, [], _++_}
 use native.Mathlib.Nat.{add-zero}
 use native.Mathlib.Omega.{arith}
 use lib.ListN.{length, getD, take, drop}
@@ -57,7 +57,7 @@ whole-written bk out o₁ o₂ o₃ trailer e t is-e is-t nodes lines is-trailer
     let first : o₁ ≡ ns ++ drop e out = nodes ∙ ap (λ k. ns ++ drop k out) skip in
     let ns-long : length ns ≡ e = length-joined node-bytes 5 (λ _. refl) (bk .nodes) ∙ sym is-e in
     let second : o₂ ≡ (ns ++ ls) ++ drop t out =
-      lines ∙ (λ i. (front-taken ns out o₁ e first ns-long i ++ ls) ++ front-left ns out o₁ e first ns-long (7 * m) i) ∙ ap (λ k. (ns ++ ls) ++ drop k out) (sym is-t) in
+    lines ∙ (λ i. (front-taken ns out o₁ e first ns-long i ++ ls) ++ front-left ns out o₁ e first ns-long (7 * m) i) ∙ ap (λ k. (ns ++ ls) ++ drop k out) (sym is-t) in
     let both-long : length (ns ++ ls) ≡ t = length-append ns ls ∙ omega (arith, ns-long, length-joined line-bytes 7 (λ _. refl) (bk .lines), is-t) in
     let third = piece-more (ns ++ ls) out o₂ t second both-long trailer 8 (ap length is-trailer) in
     last ∙ third ∙ ap (λ xs. xs ++ drop (t + 8) out) (append-assoc ns ls trailer ∙ ap (λ xs. ns ++ (ls ++ xs)) is-trailer)

@@ -6,3 +6,5 @@ pub mod Reading
 pub mod Faults
 -- what check and seal answer
 pub mod Checks
+-- what the steps of the check answer
+pub mod Steps

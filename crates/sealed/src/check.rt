@@ -11,7 +11,8 @@ ghost use Rattle.books.specs.Answers.{Node-judged, Entry-judged};
 ghost use Rattle.sealed.specs.Writing.{records-length};
 ghost use Rattle.sealed.specs.Reading.{framed, node-total, entry-total, node-start, entry-start, nodes-in, lines-in};
 ghost use Rattle.sealed.specs.Faults.{check-fault-number, check-fault-place};
-ghost use Rattle.sealed.specs.Checks.{Marks, Node-checked, Nodes-checked, Entry-checked, Entries-checked, Counts-answer, Check-answer};
+ghost use Rattle.sealed.specs.Checks.{Check-answer};
+ghost use Rattle.sealed.specs.Steps.{Marks, Node-checked, Nodes-checked, Entry-checked, Entries-checked, Counts-answer};
 use crate::bytes::raw_entry_at;
 use crate::bytes::raw_node_at;
 use crate::bytes::u16_at;
@@ -75,7 +76,13 @@ fn node_fault_at(fault: NodeFault, at: usize) -> CheckFault
 }
 
 // What the book of the first i nodes from `from` on says to an offered node, by the marks of its nodes.
-fn judged_node(bytes: &[u8], from: usize, i: u16, marks: &[bool], raw: RawNode) -> Result<Node, NodeFault>
+fn judged_node(
+    bytes: &[u8],
+    from: usize,
+    i: u16,
+    marks: &[bool],
+    raw: RawNode,
+) -> Result<Node, NodeFault>
     requires { ⌜ Marks (now marks) (nodes-in (now bytes) from i) ⌝ }
     ensures { λ r. ⌜ Node-judged (record { nodes = nodes-in (now (bytes .entry)) from i; lines = [] }) raw r ⌝ }
 {
@@ -140,7 +147,13 @@ fn typical_at(bytes: &[u8], counts: Counts, i: u16) -> bool
 }
 
 // What the book of all nodes and the first j entries says to an offered entry, by the marks of its nodes.
-fn judged_entry(bytes: &[u8], counts: Counts, marks: &[bool], j: u16, raw: RawEntry) -> Result<Entry, EnterFault>
+fn judged_entry(
+    bytes: &[u8],
+    counts: Counts,
+    marks: &[bool],
+    j: u16,
+    raw: RawEntry,
+) -> Result<Entry, EnterFault>
     requires within { ⌜ records-length (counts .nodes) (counts .entries) + 8 ≤ length (now bytes) ⌝ }
     requires marked { ⌜ Marks (now marks) (nodes-in (now bytes) (node-start (now bytes) (counts .nodes) (counts .entries)) (counts .nodes)) ⌝ }
     ensures { λ r. ⌜ Entry-judged (record { nodes = nodes-in (now (bytes .entry)) (node-start (now (bytes .entry)) (counts .nodes) (counts .entries)) (counts .nodes); lines = lines-in (now (bytes .entry)) (entry-start (now (bytes .entry)) (counts .entries)) j }) raw r ⌝ }

@@ -8,7 +8,7 @@ ghost use Rattle.logic.specs.Lawful.{entry-known};
 ghost use lib.ListN.{length, take, drop};
 ghost use Rattle.std.specs.Joined.{joined};
 ghost use Rattle.std.specs.Vec.{made};
-ghost use Rattle.sealed.specs.Writing.{u16-bytes, u32-bytes, node-bytes, line-bytes, trailer-bytes, records-length};
+ghost use Rattle.sealed.specs.Writing.{node-bytes, line-bytes, trailer-bytes};
 ghost use Rattle.sealed.specs.Checks.{Seal-answer, Round-trip};
 use crate::counts::Counts;
 use crate::faults::SealFault;

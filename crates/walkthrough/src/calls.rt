@@ -8,7 +8,7 @@ use logic::records::RawNode;
 use logic::refusal::Refusal;
 use std::io;
 
-fn print_refusal<F: Refusal>(rt: &impl Print, fault: &F) -> io::Result<()> {
+pub fn print_refusal<F: Refusal>(rt: &impl Print, fault: &F) -> io::Result<()> {
     println!(rt, "refused {} at {}", fault.number(), fault.place())
 }
 

@@ -3,7 +3,7 @@ use mathlib.Core.Path.{sym, subst}
 use native.Mathlib.Omega.{arith}
 use lib.ListN.{length}
 use Rattle.sealed.specs.Reading.{nodes-in, node-refusal-in}
-use Rattle.sealed.specs.Checks.{Marks}
+use Rattle.sealed.specs.Steps.{Marks}
 use Rattle.sealed.proofs.Rows.{nodes-in-none, nodes-in-more, length-nodes-in}
 use Rattle.sealed.proofs.Checking.{marks-more, granted-more}
 use Rattle.sealed.proofs.check.check_nodes.Needs as need

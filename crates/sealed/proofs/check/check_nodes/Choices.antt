@@ -1,6 +1,6 @@
-use lib.ListN.{length}
 use Rattle.sealed.specs.Reading.{nodes-in, node-refusal-in}
-use Rattle.sealed.specs.Checks.{Granted, Marks}
+use Rattle.sealed.specs.Checks.{Granted}
+use Rattle.sealed.specs.Steps.{Marks}
 use Rattle.sealed.proofs.check.check_nodes.Given as given
 
 abbrev pub Inv-loop-i : given.InvT-loop-i

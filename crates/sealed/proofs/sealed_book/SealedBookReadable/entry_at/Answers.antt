@@ -1,12 +1,12 @@
 use Prim.Native.Nat.{_+_, _*_, _≤_}
-use mathlib.Core.Path.{_≡_, sym, ap, _∙_}
+use mathlib.Core.Path.{sym, ap, _∙_}
 use native.Mathlib.Omega.{arith}
 use lib.Dec.{ltb}
 use lib.ListN.{length}
 use Rattle.std.proofs.shelf.Lists.{getD-past}
 use Rattle.logic.specs.Written.{entry-of}
 use Rattle.logic.specs.Books.{no-line}
-use Rattle.sealed.specs.Reading.{byte-at, raw-entry-at, entry-start, lines-in, line-at-offset}
+use Rattle.sealed.specs.Reading.{raw-entry-at, entry-start, lines-in, line-at-offset}
 use Rattle.sealed.proofs.Opening.{stands-within}
 use Rattle.sealed.proofs.Rows.{length-lines-in, getD-lines-in}
 use Rattle.sealed.proofs.sealed_book.SealedBookReadable.entry_at.Needs as need
