@@ -1,11 +1,11 @@
 -- The steps of the check: faults, marks, one record more, the whole. Assumes nothing.
 use Prim.Native.Nat.{ℕ, zero, suc, _+_, _<_}
-use mathlib.Core.Bool.{Bool, true, false}
+use mathlib.Core.Bool.{Bool, true, false, _&&_}
 use mathlib.Core.Logic.{inl, inr}
 use mathlib.Core.Path.{_≡_, refl, sym, ap, subst, _∙_}
 use mathlib.Core.List.{List, [], _∷_, _++_}
 use native.Mathlib.Omega.{arith}
-use lib.Dec.{leb}
+use lib.Dec.{eqb, leb}
 use lib.ListN.{length, getD, set, replicate}
 use Rattle.std.proofs.shelf.Lists.{getD-set-same, getD-set-other, getD-push}
 use Rattle.std.proofs.shelf.Tests.{cases-eq, cases-lt, lt-leb, false≢true}
@@ -24,7 +24,7 @@ use Rattle.books.specs.Faults.{node-fault-number, enter-fault-number}
 use Rattle.books.proofs.Replays.{getD-push-other}
 use Rattle.sealed.specs.declared.faults.CheckFault.{CheckFault}
 use Rattle.sealed.specs.declared.faults.CheckFault.the-variants as checks
-use Rattle.sealed.specs.Writing.{Sealed}
+use Rattle.sealed.specs.Writing.{records-length, Sealed}
 use Rattle.sealed.specs.Faults.{check-fault-number}
 use Rattle.sealed.specs.Checks.{Granted, Passes, First-refused, Bad}
 use Rattle.sealed.specs.Steps.{Marks}
@@ -95,3 +95,7 @@ bad-fails bs n m f (Bad.entry {n = n′} {m = m′} fits is-n is-m good first) p
 -- and so they are no sealed book
 pub bad-unsealed : (bs : List ℕ) (f : CheckFault) → Bad bs f → Sealed bs → ⊥
 bad-unsealed bs f bad (bk, sealed) = bad-fails bs _ _ f bad (sealed-passes bs bk sealed)
+
+-- the tests of a trailer, at equal numbers
+pub fits-is : (room n n′ m m′ d d′ : ℕ) → n ≡ n′ → m ≡ m′ → d ≡ d′ → (leb n 512 && (leb m 256 && (eqb d (records-length n m) && leb d room))) ≡ (leb n′ 512 && (leb m′ 256 && (eqb d′ (records-length n′ m′) && leb d′ room)))
+fits-is room n n′ m m′ d d′ nodes entries far = λ i. leb (nodes i) 512 && (leb (entries i) 256 && (eqb (far i) (records-length (nodes i) (entries i)) && leb (far i) room))

@@ -12,12 +12,13 @@ use Rattle.std.specs.Joined.{joined}
 use Rattle.std.proofs.shelf.Lists.{take-append-drop, drop-drop, joined-more, take-all, length-drop}
 use Rattle.std.proofs.shelf.Tests.{and-parts, leb-true, eqb-true}
 use Rattle.logic.specs.declared.records.Node.{Node}
+use Rattle.logic.specs.Written.{node-of}
 use Rattle.logic.specs.Books.{Book}
 use Rattle.logic.specs.Lawful.{Lawful}
 use Rattle.logic.proofs.Lawfulness.{lawful-empty}
 use Rattle.logic.proofs.Refusing.{node-granted, entry-granted-line}
 use Rattle.sealed.specs.Writing.{node-bytes, line-bytes, u16-bytes, u32-bytes, records-length, trailer-bytes, written, Sealed-as}
-use Rattle.sealed.specs.Reading.{byte-at, u16-at, u32-at, raw-node-at, raw-entry-at, nodes-in, lines-in, node-total, entry-total, distance, framed, node-start, entry-start, sealed-book, node-refusal-in, entry-refusal-in}
+use Rattle.sealed.specs.Reading.{byte-at, u16-at, u32-at, raw-node-at, raw-entry-at, line-at-offset, nodes-in, lines-in, node-total, entry-total, distance, framed, node-start, entry-start, sealed-book, node-refusal-in, entry-refusal-in}
 use Rattle.sealed.specs.Checks.{Granted, Passes}
 use Rattle.sealed.proofs.Numbers.{bytes-from}
 use Rattle.sealed.proofs.Records.{two-bytes, node-writes, line-writes}
@@ -46,6 +47,20 @@ frame-parts bs n m h is-n is-m =
       within = omega (arith, d, is-n, is-m, leb-true (distance bs) (length bs - 8) (f₄ .1));
     }
 
+-- Records of one size that are each written where they are read are written one after the other.
+module _ {X : Type 0} (f : X → List ℕ) (size : ℕ) (items : ℕ → List X) (item : ℕ → X) (none : items 0 ≡ []) (more : (i : ℕ) → items (i + 1) ≡ items i ++ item i ∷ []) where
+  records-written : (bs : List ℕ) (from n : ℕ) → ((i : ℕ) → i < n → take size (drop (from + size * i) bs) ≡ f (item i)) → take (size * n) (drop from bs) ≡ joined f (items n)
+  records-written bs from zero here = let empty-front : size * zero ≡ zero = omega arith in ap (λ k. take k (drop from bs)) empty-front ∙ ap (joined f) (sym none)
+  records-written bs from (suc n) here =
+      let before = records-written bs from n (λ i h. here i (omega arith)) in
+      let longer : size * suc n ≡ size * n + size = omega arith in
+      ap (λ k. take k (drop from bs)) longer
+      ∙ take-add (size * n) size (drop from bs)
+      ∙ (λ t. before t ++ take size (drop-drop (size * n) from bs t))
+      ∙ ap (λ xs. joined f (items n) ++ xs) (here n (omega arith))
+      ∙ joined-more f [] (items n) (item n)
+      ∙ ap (joined f) (sym (more n) ∙ ap items (add-one n))
+
 -- nodes that are granted in their turn are lawful, and their bytes are their writing
 module _ (bs : List ℕ) (from : ℕ) where
   abbrev only : List Node → Book
@@ -58,19 +73,10 @@ module _ (bs : List ℕ) (from : ℕ) where
       let grown = node-granted (only (nodes-in bs from i)) (raw-node-at bs (from + 5 * i)) (g i (omega arith)) .1 before in
       subst (λ ns. Lawful (only ns)) (sym (nodes-in-more bs from i) ∙ ap (nodes-in bs from) (add-one i)) grown
 
-  pub nodes-written : ((k : ℕ) → byte-at bs k < 256) → (i : ℕ) → Granted (node-refusal-in bs from) i → from + 5 * i ≤ length bs → take (5 * i) (drop from bs) ≡ joined node-bytes (nodes-in bs from i)
-  nodes-written bytes zero g within = ap (joined node-bytes) (sym (nodes-in-none bs from))
-  nodes-written bytes (suc i) g within =
-      let before = nodes-written bytes i (λ k h. g k (omega arith)) (omega arith) in
-      let w = node-granted (only (nodes-in bs from i)) (raw-node-at bs (from + 5 * i)) (g i (omega arith)) .0 in
-      let here = node-writes bs bytes (from + 5 * i) _ w (omega arith) in
-      let size : 5 * suc i ≡ 5 * i + 5 = omega arith in
-      ap (λ k. take k (drop from bs)) size
-      ∙ take-add (5 * i) 5 (drop from bs)
-      ∙ (λ t. before t ++ take 5 (drop-drop (5 * i) from bs t))
-      ∙ ap (λ xs. joined node-bytes (nodes-in bs from i) ++ xs) here
-      ∙ joined-more node-bytes [] (nodes-in bs from i) _
-      ∙ ap (joined node-bytes) (sym (nodes-in-more bs from i) ∙ ap (nodes-in bs from) (add-one i))
+  pub nodes-written : ((k : ℕ) → byte-at bs k < 256) → (n : ℕ) → Granted (node-refusal-in bs from) n → from + 5 * n ≤ length bs → take (5 * n) (drop from bs) ≡ joined node-bytes (nodes-in bs from n)
+  nodes-written bytes n g within =
+      records-written node-bytes 5 (nodes-in bs from) (λ i. node-of (raw-node-at bs (from + 5 * i))) (nodes-in-none bs from) (nodes-in-more bs from) bs from n
+      (λ i h. node-writes bs bytes (from + 5 * i) _ (node-granted (only (nodes-in bs from i)) (raw-node-at bs (from + 5 * i)) (g i h) .0) (omega arith))
 
 -- the same of entries, over nodes that are lawful
 module _ (bs : List ℕ) (from : ℕ) (ns : List Node) where
@@ -84,19 +90,10 @@ module _ (bs : List ℕ) (from : ℕ) (ns : List Node) where
       let grown = entry-granted-line (over j) (raw-entry-at bs (from + 7 * j)) (ltb (byte-at bs (from + 7 * j)) 16) (g j (omega arith)) .1 before in
       subst (λ ls. Lawful (record { nodes = ns; lines = ls })) (sym (lines-in-more bs from j) ∙ ap (lines-in bs from) (add-one j)) grown
 
-  pub lines-written : ((k : ℕ) → byte-at bs k < 256) → (j : ℕ) → Granted (entry-refusal-in bs ns from) j → from + 7 * j ≤ length bs → take (7 * j) (drop from bs) ≡ joined line-bytes (lines-in bs from j)
-  lines-written bytes zero g within = ap (joined line-bytes) (sym (lines-in-none bs from))
-  lines-written bytes (suc j) g within =
-      let before = lines-written bytes j (λ k h. g k (omega arith)) (omega arith) in
-      let w = entry-granted-line (over j) (raw-entry-at bs (from + 7 * j)) (ltb (byte-at bs (from + 7 * j)) 16) (g j (omega arith)) .0 in
-      let here = line-writes bs bytes (from + 7 * j) _ w (omega arith) in
-      let size : 7 * suc j ≡ 7 * j + 7 = omega arith in
-      ap (λ k. take k (drop from bs)) size
-      ∙ take-add (7 * j) 7 (drop from bs)
-      ∙ (λ t. before t ++ take 7 (drop-drop (7 * j) from bs t))
-      ∙ ap (λ xs. joined line-bytes (lines-in bs from j) ++ xs) here
-      ∙ joined-more line-bytes [] (lines-in bs from j) _
-      ∙ ap (joined line-bytes) (sym (lines-in-more bs from j) ∙ ap (lines-in bs from) (add-one j))
+  pub lines-written : ((k : ℕ) → byte-at bs k < 256) → (m : ℕ) → Granted (entry-refusal-in bs ns from) m → from + 7 * m ≤ length bs → take (7 * m) (drop from bs) ≡ joined line-bytes (lines-in bs from m)
+  lines-written bytes m g within =
+      records-written line-bytes 7 (lines-in bs from) (λ j. line-at-offset bs (from + 7 * j)) (lines-in-none bs from) (lines-in-more bs from) bs from m
+      (λ j h. line-writes bs bytes (from + 7 * j) _ (entry-granted-line (over j) (raw-entry-at bs (from + 7 * j)) (ltb (byte-at bs (from + 7 * j)) 16) (g j h) .0) (omega arith))
 
 pub passed-lawful : (bs : List ℕ) (n m : ℕ) → Passes bs n m → Lawful (sealed-book bs n m)
 passed-lawful bs n m p =

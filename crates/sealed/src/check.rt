@@ -1,8 +1,9 @@
 // The test of sealed bytes: the trailer, then the nodes and the entries in turn.
 ghost use Prim.Native.Nat.{_+_, _-_, _*_, _<_, _≤_};
 ghost use mathlib.Core.Path.{_≡_};
-ghost use mathlib.Core.Bool.{true, false};
+ghost use mathlib.Core.Bool.{true, false, _&&_};
 ghost use mathlib.Core.List.{[]};
+ghost use lib.Dec.{eqb, leb};
 ghost use lib.ListN.{length, getD};
 ghost use Rattle.std.specs.Options.{Cases as BySome};
 ghost use Rattle.logic.specs.Concepts.{of, concepts, is-typical};
@@ -33,6 +34,16 @@ use logic::records::Node;
 use logic::records::RawEntry;
 use logic::records::RawNode;
 
+// Whether a trailer with these counts and this distance fits the bytes, of which there are `len`.
+fn trailer_fits(len: usize, counts: Counts, distance: u32) -> bool
+    requires { ⌜ 8 ≤ len ⌝ }
+    ensures { λ r. ⌜ r ≡ leb (counts .nodes) 512 && (leb (counts .entries) 256 && (eqb distance (records-length (counts .nodes) (counts .entries)) && leb distance (len - 8))) ⌝ }
+{
+    let few = counts.nodes <= 512 && counts.entries <= 256;
+    let back = 5 * counts.nodes as u32 + 7 * counts.entries as u32;
+    few && distance == back && distance as usize <= len - 8
+}
+
 // Both counts, where the trailer fits.
 fn frame(bytes: &[u8]) -> Option<Counts>
     ensures { λ r. ⌜ BySome r (framed (now (bytes .entry)) ≡ false) (λ c. (framed (now (bytes .entry)) ≡ true) × (c .nodes ≡ node-total (now (bytes .entry))) × (c .entries ≡ entry-total (now (bytes .entry)))) ⌝ }
@@ -41,16 +52,14 @@ fn frame(bytes: &[u8]) -> Option<Counts>
     if len < 8 {
         return None;
     }
-    let nodes = u16_at(bytes, len - 8);
-    let entries = u16_at(bytes, len - 6);
-    let distance = u32_at(bytes, len - 4) as usize;
-    if nodes > 512 || entries > 256 {
-        return None;
+    let counts = Counts {
+        nodes: u16_at(bytes, len - 8),
+        entries: u16_at(bytes, len - 6),
+    };
+    if trailer_fits(len, counts, u32_at(bytes, len - 4)) {
+        return Some(counts);
     }
-    if distance != 5 * nodes as usize + 7 * entries as usize || distance > len - 8 {
-        return None;
-    }
-    Some(Counts { nodes, entries })
+    None
 }
 
 fn mark_at(marks: &[bool], i: u16) -> bool

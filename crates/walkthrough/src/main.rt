@@ -30,8 +30,19 @@ fn write_a_book<B: EditableBook>(rt: &LibcRuntime, book: &mut B) -> Result<(), A
 
 // T of node 3, which is T(release) already; a strike, the same again, and one of no entry.
 fn refuse_calls<B: EditableBook>(rt: &LibcRuntime, book: &mut B) -> Result<(), AnyError> {
-    println!(rt, "T of T(release) is refused, and an entry is struck only once.")?;
-    calls::node(rt, book, RawNode { kind: 8, a: 3, b: 0 })?;
+    println!(
+        rt,
+        "T of T(release) is refused, and an entry is struck only once."
+    )?;
+    calls::node(
+        rt,
+        book,
+        RawNode {
+            kind: 8,
+            a: 3,
+            b: 0,
+        },
+    )?;
     calls::strike(rt, book, 0)?;
     calls::strike(rt, book, 0)?;
     calls::strike(rt, book, 3)?;

@@ -1,16 +1,23 @@
+use Prim.Native.Nat.{_-_}
+use mathlib.Core.Bool.{true, _&&_}
+use mathlib.Core.Path.{_≡_, sym, ap, _∙_}
 use native.Mathlib.Omega.{arith}
-use Rattle.std.proofs.shelf.Ways.{tells}
-use Rattle.sealed.specs.Reading.{node-total, entry-total, distance}
+use lib.Dec.{leb}
+use lib.ListN.{length}
+use Rattle.std.proofs.shelf.Tests.{and-from, and-right, le-leb}
+use Rattle.sealed.specs.Reading.{framed, node-total, entry-total, distance}
+use Rattle.sealed.proofs.Checking.{fits-is}
 use Rattle.sealed.proofs.check.frame.Needs as need
 
-pub returns-then-nodes-gt512 : need.returns-then-nodes-gt512
-unfolding node-total entry-total
-returns-then-nodes-gt512 c = grind (arith, tells)
-
-pub returns-then-distance-nodes : need.returns-then-distance-nodes
+pub returns-then-trailer-fits : need.returns-then-trailer-fits
 unfolding node-total entry-total distance
-returns-then-distance-nodes c = grind (arith, tells)
+returns-then-trailer-fits c =
+    let long = le-leb 8 (length (c .args .bytes .now)) (c .if-len-lt8 .left) in
+    let same = fits-is (length (c .args .bytes .now) - 8) _ _ _ _ _ _ (c .u16-at .ensures) (c .u16-at-2 .ensures) (c .u32-at .ensures) in
+    (and-from _ _ long (sym (c .trailer-fits .ensures ∙ same) ∙ c .if-trailer-fits .taken), c .u16-at .ensures, c .u16-at-2 .ensures)
 
 pub returns : need.returns
 unfolding node-total entry-total distance
-returns c = (grind (arith, tells), c .u16-at-nodes .ensures, c .u16-at-entries .ensures)
+returns c =
+    let same = fits-is (length (c .args .bytes .now) - 8) _ _ _ _ _ _ (c .u16-at .ensures) (c .u16-at-2 .ensures) (c .u32-at .ensures) in
+    and-right (leb 8 (length (c .args .bytes .now))) _ (sym (c .trailer-fits .ensures ∙ same) ∙ c .if-trailer-fits .left)
