@@ -6,3 +6,7 @@ pub mod Lawfulness
 pub mod Deciding
 -- a record is granted exactly when it fits
 pub mod Refusing
+-- membership in a concept is decided
+pub mod Membership
+-- minimal elements
+pub mod Minimal

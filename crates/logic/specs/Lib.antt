@@ -8,5 +8,9 @@ pub mod Books
 pub mod Lawful
 -- why an offered record is refused
 pub mod Refusals
+-- preferential models
+pub mod Models
+-- the models of a book
+pub mod Satisfaction
 -- what is proved of them
 pub mod Laws

@@ -1,0 +1,6 @@
+-- the bits of masks
+pub mod MaskBits
+-- tables of masks
+pub mod Tables
+-- which orders are strict
+pub mod Strictness
