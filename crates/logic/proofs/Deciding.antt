@@ -1,5 +1,5 @@
 -- Lawfulness is decided, so that a book that is lawful at all has the evidence of it. Assumes nothing.
-use Prim.Native.Nat.{ℕ, zero, suc, _<_, _≤_}
+use Prim.Native.Nat.{ℕ, zero, suc, _<_}
 use mathlib.Core.Bool.{Bool, true, false}
 use mathlib.Core.Logic.{Dec·and, Dec·of-iff, ∥∥₁-elim}
 use mathlib.Core.Path.{_≡_, refl, subst}

@@ -1,15 +1,15 @@
 -- A record is granted exactly when the book can take it and stay lawful. Assumes nothing.
-use Prim.Native.Nat.{ℕ, zero, suc, _+_, _<_}
+use Prim.Native.Nat.{ℕ, zero, suc, _+_}
 use mathlib.Core.Bool.{Bool, true, false, not, cond, _&&_}
 use mathlib.Core.Path.{_≡_, refl, sym, ap, subst, _∙_}
-use mathlib.Core.List.{List, [], _∷_, _++_}
+use mathlib.Core.List.{[], _∷_, _++_}
 use native.Mathlib.Omega.{arith}
 use lib.Dec.{eqb, leb}
 use lib.ListN.{length, getD}
 use Rattle.std.specs.shelf.Lists.{All}
 use Rattle.std.proofs.shelf.Lists.{length-push, getD-push}
 use Rattle.std.proofs.shelf.Elements.{all-getD}
-use Rattle.std.proofs.shelf.Tests.{not-true, not-false, not-from-true, and-parts, and-from, leb-false, lt-leb, eqb-true, eq-eqb}
+use Rattle.std.proofs.shelf.Tests.{and-parts, and-from, leb-false, lt-leb, eqb-true, eq-eqb}
 use Rattle.std.proofs.shelf.Ways.{tells}
 use Rattle.logic.specs.declared.records.Node.{Node}
 use Rattle.logic.specs.declared.records.Node.the-variants as node
@@ -19,7 +19,7 @@ use Rattle.logic.specs.declared.records.Entry.the-variants as entry
 use Rattle.logic.specs.declared.records.RawEntry.{RawEntry}
 use Rattle.logic.specs.declared.records.Line.{Line}
 use Rattle.logic.specs.Written.{node-kind, node-a, node-b, node-of, entry-kind, entry-a, entry-b, entry-c, entry-of}
-use Rattle.logic.specs.Concepts.{of, concepts}
+use Rattle.logic.specs.Concepts.{concepts}
 use Rattle.logic.specs.Books.{Book, node-at, no-line, with-node, with-entry}
 use Rattle.logic.specs.Lawful.{Lawful, node-known, node-within-limits, node-operands-below, node-well-formed, node-placed, entry-known, entry-within-limits, entry-operands-below, entry-well-formed, entry-placed}
 use Rattle.logic.specs.Refusals.{node-unused-zero, node-refusal, entry-unused-zero, entry-refusal, Writes-node, Writes-entry, Node-fits, Entry-fits}

@@ -60,3 +60,11 @@ fn entry_kind(byte: u8) -> u8
 {
     if byte < 16 { byte } else { byte - 16 }
 }
+
+// Whether the entry that is written at an offset is live.
+pub(crate) fn live_at(bytes: &[u8], i: usize) -> bool
+    requires { ⌜ i < length (now bytes) ⌝ }
+    ensures { λ r. ⌜ r ≡ ltb (byte-at (now (bytes .entry)) i) 16 ⌝ }
+{
+    bytes[i] < 16
+}

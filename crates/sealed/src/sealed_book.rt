@@ -8,9 +8,9 @@ ghost use Rattle.sealed.specs.Checks.{Passes, Opened};
 ghost use Rattle.sealed.specs.Steps.{Stands};
 ghost use Rattle.logic.specs.Lawful.{Lawful};
 ghost use Rattle.logic.proofs.Deciding.{lawful-known};
+use crate::bytes::live_at;
 use crate::bytes::raw_entry_at;
 use crate::bytes::raw_node_at;
-use crate::bytes::u8_at;
 use crate::check::passed_counts;
 use crate::counts::Counts;
 use crate::counts::entry_start;
@@ -84,7 +84,7 @@ pub impl<'a> ReadableBook for SealedBook<'a> as SealedBookReadable {
         let at = entry_start(self.bytes, self.counts) + 7 * i as usize;
         Line {
             entry: raw_entry_at(self.bytes, at).entry(),
-            live: u8_at(self.bytes, at) < 16,
+            live: live_at(self.bytes, at),
         }
     }
 }

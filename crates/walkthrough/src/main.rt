@@ -1,5 +1,6 @@
 // One task from start to finish, each step printed: what a call was handed and what it answered.
 mod calls;
+mod preferences;
 mod rules;
 mod sealing;
 
@@ -56,7 +57,14 @@ fn walk(rt: &LibcRuntime) -> Result<(), AnyError> {
     write_a_book(rt, &mut table)?;
     println!(rt, "== The same in a journal")?;
     let mut journal: Journal = EditableBook::new(rt.alloc())?;
-    write_a_book(rt, &mut journal)
+    write_a_book(rt, &mut journal)?;
+    println!(rt, "== Orders")?;
+    println!(
+        rt,
+        "Two elements: 1 is better than 0, or each is better than the other."
+    )?;
+    preferences::fill_orders(rt)?;
+    Ok(())
 }
 
 fn main(rt: LibcRuntime) -> Result<(), AnyError> {

@@ -1,11 +1,9 @@
 use Prim.Native.Nat.{_-_}
-use mathlib.Core.Bool.{true, _&&_}
-use mathlib.Core.Path.{_≡_, sym, ap, _∙_}
-use native.Mathlib.Omega.{arith}
+use mathlib.Core.Path.{sym, _∙_}
 use lib.Dec.{leb}
 use lib.ListN.{length}
 use Rattle.std.proofs.shelf.Tests.{and-from, and-right, le-leb}
-use Rattle.sealed.specs.Reading.{framed, node-total, entry-total, distance}
+use Rattle.sealed.specs.Reading.{node-total, entry-total, distance}
 use Rattle.sealed.proofs.Checking.{fits-is}
 use Rattle.sealed.proofs.check.frame.Needs as need
 

@@ -1,7 +1,6 @@
 use Prim.Native.Nat.{_+_, _*_, _≤_}
 use mathlib.Core.Path.{sym, ap, _∙_}
 use native.Mathlib.Omega.{arith}
-use lib.Dec.{ltb}
 use lib.ListN.{length}
 use Rattle.std.proofs.shelf.Lists.{getD-past}
 use Rattle.logic.specs.Written.{entry-of}
@@ -30,8 +29,8 @@ raw-entry-at-requires c κs =
     let s = c .args .self .now in
     omega (arith, stands-within (s .bytes .now) (s .counts .nodes) (s .counts .entries) (s .stands), c .if-i-self .left, c .entry-start .ensures)
 
-pub u8-at-requires : need.u8-at-requires
-u8-at-requires c κs =
+pub live-at-requires : need.live-at-requires
+live-at-requires c κs =
     let s = c .args .self .now in
     omega (arith, stands-within (s .bytes .now) (s .counts .nodes) (s .counts .entries) (s .stands), c .if-i-self .left, c .entry-start .ensures)
 
@@ -43,5 +42,4 @@ returns c =
     let from = entry-start bs m in
     let at = ap (λ k. k + 7 * c .args .i) (c .entry-start .ensures) in
     let e = c .entry .ensures ∙ ap entry-of (c .raw-entry-at .ensures) in
-    let v = ap (λ b. ltb b 16) (c .u8-at .ensures) in
-    (λ i. record { entry = e i; live = v i }) ∙ ap (line-at-offset bs) at ∙ sym (getD-lines-in bs from m (c .args .i) no-line (c .if-i-self .left))
+    (λ i. record { entry = e i; live = c .live-at .ensures i }) ∙ ap (line-at-offset bs) at ∙ sym (getD-lines-in bs from m (c .args .i) no-line (c .if-i-self .left))
