@@ -4,7 +4,7 @@ use logic::records::Node;
 
 // A node and whether it is plain, an entry, or the number of an entry that is struck.
 #[derive(Clone, Copy)]
-pub enum Record {
+pub(crate) enum Record {
     Node(Node, bool),
     Entry(Entry),
     Strike(u16),

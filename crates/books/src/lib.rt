@@ -3,7 +3,7 @@
 pub mod book;
 pub mod faults;
 pub mod journal;
-pub mod journal_record;
+mod journal_record;
 mod lines;
 mod lists;
 mod marked;

@@ -6,7 +6,7 @@ ghost use Rattle.sealed.specs.Writing.{records-length};
 ghost use Rattle.sealed.specs.Reading.{node-start, entry-start};
 
 #[derive(Clone, Copy)]
-pub struct Counts {
+pub(crate) struct Counts {
     pub nodes: u16,
     pub entries: u16,
 }
