@@ -17,21 +17,21 @@ fn refused<F: Refusal>(fault: &F) -> Answer {
     Answer::Refused(fault.number(), fault.place())
 }
 
-pub fn node<B: EditableBook>(book: &mut B, kind: u8, a: u16, b: u16) -> Answer {
+pub(crate) fn node<B: EditableBook>(book: &mut B, kind: u8, a: u16, b: u16) -> Answer {
     match book.node(RawNode { kind, a, b }) {
         Ok(i) => Answer::Granted(i),
         Err(fault) => refused(&fault),
     }
 }
 
-pub fn enter<B: EditableBook>(book: &mut B, kind: u8, a: u16, b: u16, c: u16) -> Answer {
+pub(crate) fn enter<B: EditableBook>(book: &mut B, kind: u8, a: u16, b: u16, c: u16) -> Answer {
     match book.enter(RawEntry { kind, a, b, c }) {
         Ok(i) => Answer::Granted(i),
         Err(fault) => refused(&fault),
     }
 }
 
-pub fn strike<B: EditableBook>(book: &mut B, i: u16) -> Answer {
+pub(crate) fn strike<B: EditableBook>(book: &mut B, i: u16) -> Answer {
     match book.strike(i) {
         Ok(()) => Answer::Granted(i),
         Err(fault) => refused(&fault),

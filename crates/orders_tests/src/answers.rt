@@ -18,14 +18,14 @@ fn refused<F: Refusal>(fault: &F) -> Answer {
     Answer::Refused(fault.number(), fault.place())
 }
 
-pub fn fill_pairs(order: &mut Pairs, bytes: &[u8]) -> Answer {
+pub(crate) fn fill_pairs(order: &mut Pairs, bytes: &[u8]) -> Answer {
     match order.fill(bytes) {
         Ok(()) => Answer::Granted,
         Err(fault) => refused(&fault),
     }
 }
 
-pub fn fill_ranks(order: &mut Ranks, bytes: &[u8]) -> Answer {
+pub(crate) fn fill_ranks(order: &mut Ranks, bytes: &[u8]) -> Answer {
     match order.fill(bytes) {
         Ok(()) => Answer::Granted,
         Err(fault) => refused(&fault),
@@ -33,7 +33,7 @@ pub fn fill_ranks(order: &mut Ranks, bytes: &[u8]) -> Answer {
 }
 
 // The order has one element.
-pub fn is_alone<O: Order>(order: &O) -> Result<(), Fail> {
+pub(crate) fn is_alone<O: Order>(order: &O) -> Result<(), Fail> {
     check_eq(order.size(), 1)?;
     for x in 0..=255u8 {
         check_eq(order.better(x), 0)?;
@@ -42,7 +42,7 @@ pub fn is_alone<O: Order>(order: &O) -> Result<(), Fail> {
 }
 
 // The order has 32 elements, and each is worse than all below it.
-pub fn is_chain<O: Order>(order: &O) -> Result<(), Fail> {
+pub(crate) fn is_chain<O: Order>(order: &O) -> Result<(), Fail> {
     check_eq(order.size(), 32)?;
     for x in 0..32u8 {
         check_eq(order.better(x), all_below(x))?;
@@ -53,7 +53,7 @@ pub fn is_chain<O: Order>(order: &O) -> Result<(), Fail> {
 }
 
 // The order has two elements, and 1 is better than 0.
-pub fn is_pair<O: Order>(order: &O) -> Result<(), Fail> {
+pub(crate) fn is_pair<O: Order>(order: &O) -> Result<(), Fail> {
     check_eq(order.size(), 2)?;
     check_eq(order.better(0), 2)?;
     check_eq(order.better(1), 0)?;

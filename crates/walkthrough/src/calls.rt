@@ -8,11 +8,11 @@ use logic::records::RawNode;
 use logic::refusal::Refusal;
 use std::io;
 
-pub fn print_refusal<F: Refusal>(rt: &impl Print, fault: &F) -> io::Result<()> {
+pub(crate) fn print_refusal<F: Refusal>(rt: &impl Print, fault: &F) -> io::Result<()> {
     println!(rt, "refused {} at {}", fault.number(), fault.place())
 }
 
-pub fn node<B: EditableBook>(rt: &impl Print, book: &mut B, raw: RawNode) -> io::Result<()> {
+pub(crate) fn node<B: EditableBook>(rt: &impl Print, book: &mut B, raw: RawNode) -> io::Result<()> {
     print!(rt, "  node, kind {} a {} b {}: ", raw.kind, raw.a, raw.b)?;
     match book.node(raw) {
         Ok(i) => println!(rt, "granted, node {i}"),
@@ -20,7 +20,11 @@ pub fn node<B: EditableBook>(rt: &impl Print, book: &mut B, raw: RawNode) -> io:
     }
 }
 
-pub fn enter<B: EditableBook>(rt: &impl Print, book: &mut B, raw: RawEntry) -> io::Result<()> {
+pub(crate) fn enter<B: EditableBook>(
+    rt: &impl Print,
+    book: &mut B,
+    raw: RawEntry,
+) -> io::Result<()> {
     print!(
         rt,
         "  enter, kind {} a {} b {} c {}: ",
@@ -32,7 +36,7 @@ pub fn enter<B: EditableBook>(rt: &impl Print, book: &mut B, raw: RawEntry) -> i
     }
 }
 
-pub fn strike<B: EditableBook>(rt: &impl Print, book: &mut B, i: u16) -> io::Result<()> {
+pub(crate) fn strike<B: EditableBook>(rt: &impl Print, book: &mut B, i: u16) -> io::Result<()> {
     print!(rt, "  strike {i}: ")?;
     match book.strike(i) {
         Ok(()) => println!(rt, "granted"),

@@ -37,7 +37,7 @@ fn fill_ranks(rt: &impl Print, order: &mut Ranks, bytes: &[u8]) -> io::Result<()
     }
 }
 
-pub fn fill_orders(rt: &impl Print) -> io::Result<()> {
+pub(crate) fn fill_orders(rt: &impl Print) -> io::Result<()> {
     let mut pairs = Pairs::new();
     print!(rt, "  pairs 2, 0: ")?;
     fill_pairs(rt, &mut pairs, &[2, 0, 0, 0, 0, 0, 0, 0])?;

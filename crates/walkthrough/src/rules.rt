@@ -67,7 +67,7 @@ fn concepts<B: ReadableBook>(heap: Global, book: &B) -> Result<Vec<String>, Allo
     Ok(texts)
 }
 
-pub fn print<B: ReadableBook>(rt: &LibcRuntime, book: &B) -> Result<(), AnyError> {
+pub(crate) fn print<B: ReadableBook>(rt: &LibcRuntime, book: &B) -> Result<(), AnyError> {
     let heap = rt.alloc();
     let texts = concepts(heap, book)?;
     println!(

@@ -17,7 +17,7 @@ fn print_trailer(rt: &impl Print, bytes: &[u8]) -> io::Result<()> {
     println!(rt, "")
 }
 
-pub fn seal_and_open<B: ReadableBook>(rt: &LibcRuntime, book: &B) -> Result<(), AnyError> {
+pub(crate) fn seal_and_open<B: ReadableBook>(rt: &LibcRuntime, book: &B) -> Result<(), AnyError> {
     let mut out = [0; 128];
     match seal(book, &mut out) {
         Ok(length) => {
