@@ -1,5 +1,7 @@
 // Rule books: what a book is to its readers and to those who write in it, the tests of an offered
 // record, the slot table, and the journal.
+#![tactic(auto)]
+
 pub mod book;
 pub mod faults;
 pub mod journal;

@@ -1,4 +1,6 @@
 // Tests of editable books at their limits, the same for every kind of book.
+#![tactic(auto)]
+
 #[cfg(test)]
 mod answers;
 #[cfg(test)]

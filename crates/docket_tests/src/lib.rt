@@ -1,4 +1,6 @@
 // Tests of the docket, over both working books.
+#![tactic(auto)]
+
 #[cfg(test)]
 mod answers;
 #[cfg(test)]

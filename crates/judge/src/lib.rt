@@ -1,5 +1,7 @@
 // Judges hand-ins against a rule book: `show` judges models, `refute` tableaux. Books and orders come in by
 // their traits alone.
+#![tactic(auto)]
+
 pub mod effect;
 pub mod faults;
 pub mod fill;

@@ -1,4 +1,6 @@
 // Tests of the judge at its limits.
+#![tactic(auto)]
+
 #[cfg(test)]
 mod marked;
 #[cfg(test)]

@@ -1,5 +1,7 @@
 // The records of a rule book and of a tableau. What they mean, which books are lawful, why an offered
 // record is refused and what the rules of the tableau are is said in specs/.
+#![tactic(auto)]
+
 pub mod laws;
 pub mod records;
 pub mod refusal;

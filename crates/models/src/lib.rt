@@ -1,5 +1,7 @@
 // Models in bytes: a validated view of an interpretation, the set of each concept, and which entries
 // are true.
+#![tactic(auto)]
+
 pub mod faults;
 mod fields;
 pub mod laws;

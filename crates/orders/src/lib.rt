@@ -1,4 +1,6 @@
 // Strict orders on at most 32 elements: what an order is, and two kinds that are filled from bytes.
+#![tactic(auto)]
+
 pub mod bytes;
 pub mod faults;
 pub mod laws;

@@ -1,4 +1,6 @@
 // Tests of orders at their limits.
+#![tactic(auto)]
+
 #[cfg(test)]
 mod answers;
 #[cfg(test)]

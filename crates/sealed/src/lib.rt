@@ -1,4 +1,6 @@
 // Sealed books: check tests the bytes, a sealed book reads within them, seal writes them.
+#![tactic(auto)]
+
 mod bytes;
 pub mod check;
 mod counts;

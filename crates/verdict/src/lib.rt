@@ -1,4 +1,6 @@
 // Verdicts, and the line that is printed of each.
+#![tactic(auto)]
+
 pub mod faults;
 pub mod laws;
 pub mod line;

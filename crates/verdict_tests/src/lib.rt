@@ -1,3 +1,5 @@
 // Tests of the lines of verdicts.
+#![tactic(auto)]
+
 #[cfg(test)]
 mod lines;

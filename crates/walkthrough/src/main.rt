@@ -1,4 +1,6 @@
 // One task from start to finish, each step printed: what a call was handed and what it answered.
+#![tactic(auto)]
+
 mod calls;
 mod preferences;
 mod rules;
