@@ -54,7 +54,7 @@ pub trait Property {
 
 // The set of the elements below n, of the 32 that there can be, that have the property.
 pub fn mask_of<P: Property>(property: &P, n: u8) -> u32
-    ensures { result ≡ mask_of (holds property.now) (min n 32) }
+    ensures { result ≡ mask_of (P.holds property.now) (min n 32) }
 {
     let mut mask: u32 = 0;
     for x in (0..n.min(32)).rev() {

@@ -3,7 +3,7 @@ use Rattle.std.proofs.lemmas.List.{drop_all}
 use Rattle.logic.specs.declared.records.Node.TheVariants.{Absent}
 use Rattle.books.proofs.Replays.{left_node, left_other, get_d_tail}
 use Rattle.books.proofs.journal.node_record.Goals as goal
-use Rattle.books.proofs.journal.node_record.Goals.{in-Node+else-left-eq0, in-default}
+use Rattle.books.proofs.journal.node_record.Goals.{in-Node+else-left-eq0, in_default}
 
 pub returns-then-left-eq0 : goal.returns-then-left-eq0
 returns-then-left-eq0 c =
@@ -21,8 +21,8 @@ loop-record-preserved c =
           let nodes = get_d_tail _ _ c.loop-record.left Absent w.if-left-eq0.false in
           let marks = get_d_tail _ _ c.loop-record.left true w.if-left-eq0.false in
           (rw w.left-is (sym nodes ∙ (rw front.0 at c.loop-record.invariant.0)), rw w.left-is (sym marks ∙ (rw front.1 at c.loop-record.invariant.1))))
-      | in-default w ↦
-          (let front = left_other c.args.records.now c.loop-record.record-index _ c.loop-record-test.true w.in-default.not-Node in
+      | in_default w ↦
+          (let front = left_other c.args.records.now c.loop-record.record-index _ c.loop-record-test.true w.in_default.not-Node in
           (rw (w.left-is, ← front.0) c.loop-record.invariant.0, rw (w.left-is, ← front.1) c.loop-record.invariant.1))
     ]
 

@@ -22,7 +22,7 @@ returns-in-Strike c = record {
       (let is = sym c.in-Strike.is in
       let j = c.in-Strike.j in
       let i = c.args.i in
-      let line = c.after-strike.ensures ∙ ap (λ l. cond (eqb j i) (struck l) l) h ∙ sym (read_strike bk.lines j i) in
+      let line = c.after_strike.ensures ∙ ap (λ l. cond (eqb j i) (struck l) l) h ∙ sym (read_strike bk.lines j i) in
       (line ∙ ap (λ r. line_at (recorded bk r) i) is, k ∙ sym (length-set bk.lines j (struck (line_at bk j))) ∙ ap (λ r. length (recorded bk r).lines) is));
   few = omega arith;
 }

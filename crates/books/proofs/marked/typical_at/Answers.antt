@@ -5,4 +5,4 @@ use Rattle.books.proofs.marked.typical_at.Goals as goal
 
 pub returns : goal.returns
 returns g c =
-    c.typical-node.ensures [] ∙ ap (λ n. is_typical (read [] n)) c.node-at.ensures ∙ sym (typical_at [] (g.B.ReadableBook.meaning c.args.book.now).nodes c.args.i)
+    c.typical_node.ensures [] ∙ ap (λ n. is_typical (read [] n)) c.node_at.ensures ∙ sym (typical_at [] (g.B.ReadableBook.meaning c.args.book.now).nodes c.args.i)

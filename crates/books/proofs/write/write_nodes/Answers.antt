@@ -10,15 +10,15 @@ use Rattle.books.proofs.write.write_nodes.Goals as goal
 pub loop-raw-init : goal.loop-raw-init
 loop-raw-init g c = refl
 
-pub returns-in-err-node : goal.returns-in-err-node
-returns-in-err-node g c =
-    let p = err_from_is_err_and c.from-residual.result c.from-residual.ensures.1 in
-    let h = c.in-err-node.ensures.answer in
-    rw (p.1, p.2) (list_refused node_refusal node_more (g.B.ReadableBook.meaning c.args.book.now) (g.B.ReadableBook.meaning c.loop-raw.book) (g.B.ReadableBook.meaning c.node.new.self) c.args.raws.now c.loop-raw.raw-index _ c.loop-raw-test.true c.loop-raw.invariant NodeRefused c.in-err-node.field-0.0 h.0 h.1)
+pub returns-in_err-node : goal.returns-in_err-node
+returns-in_err-node g c =
+    let p = err_from_is_err_and c.from_residual.result c.from_residual.ensures.1 in
+    let h = c.in_err-node.ensures.answer in
+    rw (p.1, p.2) (list_refused node_refusal node_more (g.B.ReadableBook.meaning c.args.book.now) (g.B.ReadableBook.meaning c.loop-raw.book) (g.B.ReadableBook.meaning c.node.new.self) c.args.raws.now c.loop-raw.raw-index _ c.loop-raw-test.true c.loop-raw.invariant NodeRefused c.in_err-node.field-0.0 h.0 h.1)
 
 pub loop-raw-preserved : goal.loop-raw-preserved
 loop-raw-preserved g c =
-    let h = c.in-ok-node.ensures.answer in
+    let h = c.in_ok-node.ensures.answer in
     written_more node_refusal node_more (g.B.ReadableBook.meaning c.args.book.now) (g.B.ReadableBook.meaning c.loop-raw.book) (g.B.ReadableBook.meaning c.node.new.self) c.args.raws.now c.loop-raw.raw-index _ c.loop-raw-test.true c.loop-raw.invariant h.0 h.2
 
 pub returns : goal.returns

@@ -4,13 +4,13 @@ use Rattle.orders.specs.Masks.{gathered}
 use Rattle.orders.proofs.MaskBits.{bit_small, gathered_fits, gathered_more}
 use Rattle.orders.proofs.masks.mask_of.Goals as goal
 
-pub overflow-mul-mask : goal.overflow-mul-mask
-overflow-mul-mask g c =
+pub overflow_mul-mask : goal.overflow_mul-mask
+overflow_mul-mask g c =
     let p = g.P.Property.holds c.args.property.now in
     omega (arith, gathered_fits p (min c.args.n 32 - c.loop-x.x) c.loop-x.x (omega arith), c.loop-x.invariant)
 
-pub overflow-add-mask : goal.overflow-add-mask
-overflow-add-mask g c =
+pub overflow_add-mask : goal.overflow_add-mask
+overflow_add-mask g c =
     let p = g.P.Property.holds c.args.property.now in
     omega (arith, gathered_fits p (min c.args.n 32 - c.loop-x.x) c.loop-x.x (omega arith), c.loop-x.invariant, bit_small c.test.result)
 

@@ -5,7 +5,7 @@ use Rattle.orders.proofs.Strictness.{word_past}
 use Rattle.orders.proofs.pairs.rows_of.Goals as goal
 
 pub loop-x-preserved : goal.loop-x-preserved
-loop-x-preserved c = filled_more (paired c.args.bytes.now).better 32 c.loop-x.x c.word-at.result c.loop-x.rows (omega arith) c.loop-x.invariant c.word-at.ensures
+loop-x-preserved c = filled_more (paired c.args.bytes.now).better 32 c.loop-x.x c.word_at.result c.loop-x.rows (omega arith) c.loop-x.invariant c.word_at.ensures
 
 pub returns : goal.returns
 returns c =

@@ -5,13 +5,13 @@ use Rattle.orders.specs.Masks.{gathered}
 use Rattle.orders.proofs.MaskBits.{bit_small, gathered_fits, gathered_more}
 use Rattle.orders.proofs.ranks.lower.Goals as goal
 
-pub overflow-mul-mask : goal.overflow-mul-mask
-overflow-mul-mask c =
+pub overflow_mul-mask : goal.overflow_mul-mask
+overflow_mul-mask c =
     let rs = c.args.ranks.now in
     omega (arith, gathered_fits (λ z. ltb (byte rs z) c.args.rank) (length rs - c.loop-y.y) c.loop-y.y (omega (arith, c.requires)), c.loop-y.invariant)
 
-pub overflow-add-mask : goal.overflow-add-mask
-overflow-add-mask c =
+pub overflow_add-mask : goal.overflow_add-mask
+overflow_add-mask c =
     let rs = c.args.ranks.now in
     omega (arith, gathered_fits (λ z. ltb (byte rs z) c.args.rank) (length rs - c.loop-y.y) c.loop-y.y (omega (arith, c.requires)), c.loop-y.invariant, bit_small c.beats.result)
 

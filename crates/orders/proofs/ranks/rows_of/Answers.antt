@@ -10,7 +10,7 @@ pub loop-x-preserved : goal.loop-x-preserved
 loop-x-preserved c =
     let rs = c.args.ranks.now in
     filled_more (ranked rs).better 32 c.loop-x.x c.lower.result c.loop-x.rows (omega arith) c.loop-x.invariant
-    (c.lower.ensures ∙ ap (λ r. mask_of (λ y. ltb (byte rs y) r) (length rs)) c.byte-at.ensures)
+    (c.lower.ensures ∙ ap (λ r. mask_of (λ y. ltb (byte rs y) r) (length rs)) c.byte_at.ensures)
 
 pub returns : goal.returns
 returns c =

@@ -7,31 +7,40 @@ use Rattle.books.proofs.Replays.{replay-push}
 use Rattle.books.proofs.Keeping.{kept, room, kept_entry}
 use Rattle.books.proofs.journal.JournalEditableBook.enter.Goals as goal
 
-pub returns-in-err-entry : goal.returns-in-err-entry
-returns-in-err-entry c =
+pub returns-in_err-entry : goal.returns-in_err-entry
+returns-in_err-entry c =
     let bk : Book = replay empty (vec_items c.args.self.now.records) in
-    let p = err_from_is_err_and c.from-residual.result c.from-residual.ensures.1 in
-    let h = c.in-err-entry.ensures in
+    let p = err_from_is_err_and c.from_residual.result c.from_residual.ensures.1 in
+    let h = c.in_err-entry.ensures in
     rw (p.1, p.2) (record { answer = search rules; exact = entry_refused_exact bk c.args.raw _ h })
 
-pub push-reserved-requires : goal.push-reserved-requires
-push-reserved-requires c =
+pub push_reserved-requires : goal.push_reserved-requires
+push_reserved-requires c =
     let s = c.args.self.now in
-    let h = c.in-ok-entry.ensures in
+    let h = c.in_ok-entry.ensures in
     omega (arith, room (kept_entry (kept s) _ _ refl c.args.raw _ h.0 h.1 refl), s.room)
 
-pub invariant-of-self : goal.invariant-of-self
-invariant-of-self c =
+pub invariant_of-self : goal.invariant_of-self
+invariant_of-self c =
     let s = c.args.self.now in
-    let h = c.in-ok-entry.ensures in
-    let after = c.push-reserved.ensures in
+    let h = c.in_ok-entry.ensures in
+    let after = c.push_reserved.ensures in
     let k = kept_entry (kept s) _ _ after.len c.args.raw _ h.0 h.1 after.items in
-    (omega (arith, s.room, after.capacity), (k.counted_nodes, (k.counted_entries, (k.counted, (k.few_nodes, (k.few_entries, (k.marked, (∣ k.lawful ∣₁, tt))))))))
+    record {
+      room = omega (arith, s.room, after.capacity);
+      counted_nodes = k.counted_nodes;
+      counted_entries = k.counted_entries;
+      counted = k.counted;
+      few_nodes = k.few_nodes;
+      few_entries = k.few_entries;
+      marked = k.marked;
+      lawful = ∣ k.lawful ∣₁;
+    }
 
 pub returns : goal.returns
 returns c =
     let s = c.args.self.now in
     let bk : Book = replay empty (vec_items s.records) in
-    let h = c.in-ok-entry.ensures in
-    let grown = replay-push (vec_items s.records) _ _ c.push-reserved.ensures.items ∙ ap (with_entry bk) h.1 in
+    let h = c.in_ok-entry.ensures in
+    let grown = replay-push (vec_items s.records) _ _ c.push_reserved.ensures.items ∙ ap (with_entry bk) h.1 in
     record { answer = (h.0, s.counted_entries, grown); exact = entry_granted_exact bk c.args.raw (kept s).lawful h.0 }

@@ -8,4 +8,4 @@ use Rattle.books.proofs.journal.JournalMarkedBook.plain_at.Goals as goal
 pub returns : goal.returns
 returns c =
     let s = c.args.self.now in
-    c.node-record.ensures.mark ∙ ap (λ xs. get_or (recorded_marks xs) c.args.i true) c.deref.ensures.value ∙ ap (λ marks. get_or marks c.args.i true) s.marked ∙ plain_mark_at (concepts (replay empty (vec_items s.records)).nodes) c.args.i
+    c.node_record.ensures.mark ∙ ap (λ xs. get_or (recorded_marks xs) c.args.i true) c.deref.ensures.value ∙ ap (λ marks. get_or marks c.args.i true) s.marked ∙ plain_mark_at (concepts (replay empty (vec_items s.records)).nodes) c.args.i

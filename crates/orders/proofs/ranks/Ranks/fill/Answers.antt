@@ -8,4 +8,4 @@ use Rattle.orders.proofs.ranks.Ranks.fill.Goals as goal
 pub of-self-requires : goal.of-self-requires
 of-self-requires c =
     let bs = c.args.bytes.now in
-    subst Strict (sym (table_means (ranked bs) (length bs) c.rows-of.result refl c.rows-of.ensures)) (ranked_strict bs (omega arith, omega arith))
+    subst Strict (sym (table_means (ranked bs) (length bs) c.rows_of.result refl c.rows_of.ensures)) (ranked_strict bs (omega arith, omega arith))
