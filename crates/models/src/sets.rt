@@ -64,14 +64,14 @@ fn leading(view: &View, role: u16, set: u32) -> u32
 
 // The typical elements of a set: those elements of the order in it than which no better one is in it.
 pub fn typical<O: Order>(order: &O, set: u32) -> u32
-    ensures { BestOf (meaning order.now) set result }
+    ensures { BestOf (O.meaning order.now) set result }
 {
     mask_of(&Best { order, set }, order.size())
 }
 
 // The set of a node's concept, where the list has the sets of the concepts of the nodes before it.
 pub fn extension<O: Order>(view: &View, order: &O, list: &[u32], node: Node) -> u32
-    ensures { SetOfNode (held view.now) (meaning order.now) list.now node result }
+    ensures { SetOfNode (held view.now) (O.meaning order.now) list.now node result }
 {
     match node {
         Node::Top => all_below(view.size()),

@@ -8,7 +8,7 @@ use Rattle.docket.proofs.Law.{docket_law}
 use Rattle.docket.proofs.play.play.Goals as goal
 
 pub loop-call-init : goal.loop-call-init
-loop-call-init g c = ([], none, c.in-ok-docket.ensures)
+loop-call-init g c = ([], none, c.in_ok-docket.ensures)
 
 pub loop-call-preserved : goal.loop-call-preserved
 loop-call-preserved g c =

@@ -13,8 +13,8 @@ returns-then-at-eq0 c =
     subst (λ v. Moved (lengths cs es ss) (λ n σ. Shown σ.branch σ.pending n cs es ss) (back v) (Ok None))
     (sym (none_pending br ps c.args.at cs es ss s c.if-at-eq0.true)) tt
 
-pub overflow-add-result : goal.overflow-add-result
-overflow-add-result c =
+pub overflow_add-result : goal.overflow_add-result
+overflow_add-result c =
     let below : c.record-at-latest.result.constraints < c.args.at.constraints =
     latest_below c.requires.0 c.requires.1 c.args.at _ _ _ c.requires.2 c.record-at-latest.result (omega arith) c.record-at-latest.ensures in
     omega arith
@@ -23,6 +23,6 @@ pub returns : goal.returns
 returns c =
     λ br ps s.
     close_back br ps c.args.at c.args.constraints.now c.args.edges.now c.args.splits.now s c.record-at-latest.result
-    c.cut-back-2.new.list c.append.new.list c.cut-back-3.new.list c.cut-back.new.list (omega arith) c.record-at-latest.ensures
-    c.cut-back-2.auto.list c.append.auto.list c.cut-back-3.auto.list c.cut-back.auto.list
-    c.cut-back.ensures c.cut-back-2.ensures c.cut-back-3.ensures c.append.result c.append.ensures.room c.append.ensures.list
+    c.cut-back-2.new.list c.append.new.list c.cut-back-3.new.list c.cut_back.new.list (omega arith) c.record-at-latest.ensures
+    c.cut-back-2.auto.list c.append.auto.list c.cut-back-3.auto.list c.cut_back.auto.list
+    c.cut_back.ensures c.cut-back-2.ensures c.cut-back-3.ensures c.append.result c.append.ensures.room c.append.ensures.list

@@ -17,7 +17,7 @@ loop-i-preserved g c =
     let i = held c.args.view.now in
     let o = g.O.Order.meaning c.args.order.now in
     filled_more bk i o c.loop-i.i c.extension.result c.loop-i.list (omega (arith, c.node-count-count.ensures)) (omega arith) c.loop-i.invariant
-    (subst (λ n. SetOfNode i o c.loop-i.list n c.extension.result) c.node-at.ensures c.extension.ensures)
+    (subst (λ n. SetOfNode i o c.loop-i.list n c.extension.result) c.node_at.ensures c.extension.ensures)
 
 pub returns : goal.returns
 returns g c =

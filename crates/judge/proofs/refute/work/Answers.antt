@@ -15,15 +15,15 @@ pub loop-i-init : goal.loop-i-init
 loop-i-init g c =
     (c.new-used.ensures, (start, [], begun, shown_start c.start.result _ _ _ c.start.ensures c.requires.constraints-blank c.requires.edges-blank c.requires.splits-blank))
 
-pub returns-in-default : goal.returns-in-default
-returns-in-default g c =
+pub returns-in_default : goal.returns-in_default
+returns-in_default g c =
     let bs = c.args.bytes.now in
     let bk = g.B.ReadableBook.meaning c.args.book.now in
     let ls = lengths c.args.constraints.now c.args.edges.now c.args.splits.now in
     let l = c.loop-i in (
       omega (arith, steps_length bs c.args.steps),
       subst (Finished bk ls) (sym (steps-take bs l.i c.args.steps (omega arith)))
-          (subst (Stands bk ls (first_steps l.i bs) (ShownIn l.constraints l.edges l.splits)) c.in-default.is l.invariant.1),
+          (subst (Stands bk ls (first_steps l.i bs) (ShownIn l.constraints l.edges l.splits)) c.in_default.is l.invariant.1),
     )
 
 pub returns-in-Err : goal.returns-in-Err

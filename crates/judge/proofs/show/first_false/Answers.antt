@@ -13,8 +13,8 @@ returns-then-fails g c = λ o f s.
     let m = meant (held c.args.view.now) o f in
     let told = c.if-fails.ensures o f bk (sets_everywhere m bk c.args.list.now s) in
     record {
-      entry = c.entry-at.result.entry;
-      live = live_read m bk c.loop-i.i c.entry-at.result c.entry-at.ensures told.0;
+      entry = c.entry_at.result.entry;
+      live = live_read m bk c.loop-i.i c.entry_at.result c.entry_at.ensures told.0;
       false_here = told.1;
       true_before = c.loop-i.invariant o f s;
     }
@@ -28,7 +28,7 @@ loop-i-preserved g c = λ o f s j e h live.
       | inl l ↦ c.loop-i.invariant o f s j e l live
       | inr l ↦
           (let same : j ≡ c.loop-i.i = omega arith in
-          true_read m bk c.loop-i.i c.entry-at.result c.entry-at.ensures told e (subst (λ k. Live bk k e) same live))
+          true_read m bk c.loop-i.i c.entry_at.result c.entry_at.ensures told e (subst (λ k. Live bk k e) same live))
     ]
 
 pub returns : goal.returns

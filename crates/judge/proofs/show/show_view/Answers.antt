@@ -11,8 +11,8 @@ returns-then-size g c = λ bs whole e.
     at_size (g.B.ReadableBook.meaning c.args.book.now) (held v) (g.O.Order.meaning c.args.order.now) _ bs whole e (held_valid v)
     c.size-size.result c.size-size.ensures (λ d. c.if-size.true (d ∙ sym c.size.ensures)) c.requires
 
-pub returns-in-err-fill : goal.returns-in-err-fill
-returns-in-err-fill g c = λ bs whole e.
+pub returns-in_err-fill : goal.returns-in_err-fill
+returns-in_err-fill g c = λ bs whole e.
     let v = c.args.view.now in
     let o = g.O.Order.meaning c.args.order.now in
     let bk = g.B.ReadableBook.meaning c.args.book.now in
@@ -20,7 +20,7 @@ returns-in-err-fill g c = λ bs whole e.
     subst (ShowAnswer bk bs o c.fill.new.list) (sym (p.1 ∙ ap Err p.2))
     (at_list bk (held v) o _ bs whole e (held_valid v)
     (g.O.Order.strict c.args.order.now) (sym c.size-size.ensures ∙ c.if-size.false ∙ c.size.ensures)
-    _ c.in-err-fill.ensures)
+    _ c.in_err-fill.ensures)
 
 pub returns-in-Some : goal.returns-in-Some
 returns-in-Some g c = λ bs whole e.
@@ -28,7 +28,7 @@ returns-in-Some g c = λ bs whole e.
     let o = g.O.Order.meaning c.args.order.now in
     at_entry (g.B.ReadableBook.meaning c.args.book.now) (held v) o _ bs whole e (held_valid v)
     (g.O.Order.strict c.args.order.now) (sym c.size-size.ensures ∙ c.if-size.false ∙ c.size.ensures)
-    c.in-Some.i c.in-ok-fill.ensures c.in-Some.ensures
+    c.in-Some.i c.in_ok-fill.ensures c.in-Some.ensures
 
 pub returns-in-None : goal.returns-in-None
 returns-in-None g c = λ bs whole e.
@@ -36,4 +36,4 @@ returns-in-None g c = λ bs whole e.
     let o = g.O.Order.meaning c.args.order.now in
     at_model (g.B.ReadableBook.meaning c.args.book.now) (held v) o _ bs whole e (held_valid v)
     (g.O.Order.strict c.args.order.now) (sym c.size-size.ensures ∙ c.if-size.false ∙ c.size.ensures)
-    c.size-size.result (c.if-size.false ∙ c.size.ensures) c.in-ok-fill.ensures c.in-None.ensures
+    c.size-size.result (c.if-size.false ∙ c.size.ensures) c.in_ok-fill.ensures c.in-None.ensures

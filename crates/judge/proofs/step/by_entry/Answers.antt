@@ -6,8 +6,8 @@ use Rattle.judge.specs.Ops.{there}
 use Rattle.judge.proofs.Parting.{entry_never, entry_not_there, entry_struck, entry_found}
 use Rattle.judge.proofs.step.by_entry.Goals as goal
 
-pub returns-then-step-entry-count : goal.returns-then-step-entry-count
-returns-then-step-entry-count g c = λ br n. entry_never _ br c.args.op c.args.step (omega arith)
+pub returns-then-step-entry_count : goal.returns-then-step-entry_count
+returns-then-step-entry_count g c = λ br n. entry_never _ br c.args.op c.args.step (omega arith)
 
 pub returns-then-not-present : goal.returns-then-not-present
 returns-then-not-present g c =

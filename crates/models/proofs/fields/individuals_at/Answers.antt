@@ -8,8 +8,8 @@ pub loop-a-preserved : goal.loop-a-preserved
 loop-a-preserved c =
     let bs = c.args.bytes.now in
     let a = c.loop-a.a in
-    filled_more (λ a. cond (ltb a 32) (byte bs (2305 + a)) 0) 32 a c.byte-at.result c.loop-a.individuals (omega arith) c.loop-a.invariant
-    (c.byte-at.ensures ∙ cond_below a 32 (byte bs (2305 + a)) 0 (omega arith))
+    filled_more (λ a. cond (ltb a 32) (byte bs (2305 + a)) 0) 32 a c.byte_at.result c.loop-a.individuals (omega arith) c.loop-a.invariant
+    (c.byte_at.ensures ∙ cond_below a 32 (byte bs (2305 + a)) 0 (omega arith))
 
 pub returns : goal.returns
 returns c =

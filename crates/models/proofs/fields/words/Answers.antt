@@ -13,8 +13,8 @@ loop-k-preserved g c =
     let bs = c.args.bytes.now in
     let from = c.args.from in
     let k = c.loop-k.k in
-    filled_more (λ k. cond (ltb k g.row.N) (word bs (from + 4 * k)) 0) g.row.N k c.word-at.result c.loop-k.masks (omega arith) c.loop-k.invariant
-    (c.word-at.ensures ∙ cond_below k g.row.N (word bs (from + 4 * k)) 0 (omega arith))
+    filled_more (λ k. cond (ltb k g.row.N) (word bs (from + 4 * k)) 0) g.row.N k c.word_at.result c.loop-k.masks (omega arith) c.loop-k.invariant
+    (c.word_at.ensures ∙ cond_below k g.row.N (word bs (from + 4 * k)) 0 (omega arith))
 
 pub returns : goal.returns
 returns g c =

@@ -11,6 +11,6 @@ pub returns-in-Fact : goal.returns-in-Fact
 returns-in-Fact c = λ o f bk h.
     let m = meant (held c.args.view.now) o f in
     let e = h c.in-Fact.c (m.individual c.in-Fact.x) in
-    let said = c.contains.ensures ∙ ap (λ s. has s c.element.result) c.set-at-in-Fact.ensures ∙ ap (has _) c.element.ensures in
+    let said = c.contains.ensures ∙ ap (λ s. has s c.element.result) c.set_at-in-Fact.ensures ∙ ap (has _) c.element.ensures in
     subst (λ e. Decides c.contains.result (HoldsIn m bk e)) (sym c.in-Fact.is)
     (Decides-at _ _ said (Decides-like _ (λ p. p.1) (λ u. (f.valid (individual c.in-Fact.x), u)) e))

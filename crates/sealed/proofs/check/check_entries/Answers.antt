@@ -7,4 +7,4 @@ loop-j-preserved c =
     let bs = c.args.bytes.now in
     let n = c.args.counts.nodes in
     let m = c.args.counts.entries in
-    granted_more (entry_refusal_in bs (nodes_in bs (node_start bs n m) n) (entry_start bs m)) c.loop-j.j c.loop-j.invariant c.in-ok-check-entry.ensures
+    granted_more (entry_refusal_in bs (nodes_in bs (node_start bs n m) n) (entry_start bs m)) c.loop-j.j c.loop-j.invariant c.in_ok-check_entry.ensures

@@ -5,8 +5,8 @@ use Rattle.sealed.proofs.Rows.{length-lines_in}
 use Rattle.sealed.proofs.Checking.{entry_past_full}
 use Rattle.sealed.proofs.check.check_entry.Goals as goal
 
-pub entry-fault-at-requires : goal.entry-fault-at-requires
-entry-fault-at-requires c =
+pub entry_fault_at-requires : goal.entry_fault_at-requires
+entry_fault_at-requires c =
     let bs = c.args.bytes.now in
     let n = c.args.counts.nodes in
     let m = c.args.counts.entries in

@@ -12,7 +12,7 @@ pub loop-i-preserved : goal.loop-i-preserved
 loop-i-preserved c =
     let bs = c.args.bytes.now in
     let i = c.loop-i.i in
-    let h = c.in-ok-mark.ensures in
+    let h = c.in_ok-mark.ensures in
     let room : i < length c.loop-i.marks = omega (arith, c.requires.room, c.requires.few) in
     let ns = nodes_in bs c.args.from i in
-    (granted_more (node_refusal_in bs c.args.from) i c.loop-i.invariant.0 h.0, subst (Marks _) (sym (nodes_in_more bs c.args.from i)) (marks_more c.loop-i.marks ns _ i c.in-ok-mark.mark room (length-nodes_in bs c.args.from i) h.1 c.loop-i.invariant.1))
+    (granted_more (node_refusal_in bs c.args.from) i c.loop-i.invariant.0 h.0, subst (Marks _) (sym (nodes_in_more bs c.args.from i)) (marks_more c.loop-i.marks ns _ i c.in_ok-mark.mark room (length-nodes_in bs c.args.from i) h.1 c.loop-i.invariant.1))

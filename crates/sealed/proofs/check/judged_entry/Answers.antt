@@ -10,5 +10,5 @@ returns c =
     let m = c.args.counts.entries in
     let s = node_start bs n m in
     let e = entry_start bs m in
-    c.judge-entry.ensures (record { nodes = nodes_in bs s n; lines = lines_in bs e c.args.j }) (length-lines_in bs e c.args.j) (length-nodes_in bs s n)
-    (sym c.typical_at.ensures) (sym (c.mark-at.ensures ∙ c.requires.marked c.args.raw.a)) (sym (c.mark-at-2.ensures ∙ c.requires.marked c.args.raw.b))
+    c.judge_entry.ensures (record { nodes = nodes_in bs s n; lines = lines_in bs e c.args.j }) (length-lines_in bs e c.args.j) (length-nodes_in bs s n)
+    (sym c.typical_at.ensures) (sym (c.mark_at.ensures ∙ c.requires.marked c.args.raw.a)) (sym (c.mark_at-2.ensures ∙ c.requires.marked c.args.raw.b))

@@ -15,7 +15,7 @@ returns-then-i-counts c =
     let i = c.args.i in
     let s = node_start bs n c.args.counts.entries in
     let read_here = c.node.ensures ∙ ap node_of (c.raw_node_at.ensures ∙ ap (λ k. raw_node_at bs (k + 5 * i)) c.node_start.ensures) in
-    c.typical-node.ensures [] ∙ ap (λ x. is_typical (read [] x)) (read_here ∙ sym (get_or-nodes_in bs s n i Absent c.if-i-counts.true)) ∙ sym (typical_at [] (nodes_in bs s n) i)
+    c.typical_node.ensures [] ∙ ap (λ x. is_typical (read [] x)) (read_here ∙ sym (get_or-nodes_in bs s n i Absent c.if-i-counts.true)) ∙ sym (typical_at [] (nodes_in bs s n) i)
 
 pub returns-else-i-counts : goal.returns-else-i-counts
 returns-else-i-counts c =

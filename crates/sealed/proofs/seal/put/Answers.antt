@@ -9,4 +9,4 @@ returns c =
     let at = c.args.at in
     let size : at + length bs - at ≡ length bs = omega arith in
     let rest = ap (λ k. drop k (drop at out)) size ∙ drop-drop (length bs) at out in
-    λ i. take at out ++ (c.copy-from-slice.ensures.after i ++ rest i)
+    λ i. take at out ++ (c.copy_from_slice.ensures.after i ++ rest i)

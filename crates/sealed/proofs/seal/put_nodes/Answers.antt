@@ -15,7 +15,7 @@ loop-i-preserved g c =
     let at = c.args.at in
     let within : c.loop-i.i < length xs = omega arith in
     record_more node_bytes 5 (λ _. refl) (take at rest) rest c.loop-i.out at xs c.loop-i.i (length-take-le at rest (omega (arith, c.requires))) c.loop-i.invariant
-    c.put.new.out _ Absent within (c.node_bytes.ensures ∙ ap node_bytes c.node-at.ensures) c.put.ensures
+    c.put.new.out _ Absent within (c.node_bytes.ensures ∙ ap node_bytes c.node_at.ensures) c.put.ensures
 
 pub returns : goal.returns
 returns g c =

@@ -9,4 +9,4 @@ returns c =
     let at = c.args.at in
     let size : at + length text - at ≡ length text = omega arith in
     let rest = ap (λ k. drop k (drop at out)) size ∙ drop-drop (length text) at out in
-    record { end_is = refl; out_is = λ i. take at out ++ (c.copy-from-slice.ensures.after i ++ rest i) }
+    record { end_is = refl; out_is = λ i. take at out ++ (c.copy_from_slice.ensures.after i ++ rest i) }

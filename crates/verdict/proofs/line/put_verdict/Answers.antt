@@ -6,25 +6,25 @@ use Rattle.verdict.proofs.Lengths.{text_ends}
 use Rattle.verdict.proofs.Pieces.{put_put, put_same}
 use Rattle.verdict.proofs.line.put_verdict.Goals as goal
 
-pub put-decimal-requires : goal.put-decimal-requires
-put-decimal-requires c = omega (arith, decimal_short c.in-Closed.entries (omega arith))
+pub put_decimal-requires : goal.put_decimal-requires
+put_decimal-requires c = omega (arith, decimal_short c.in-Closed.entries (omega arith))
 
-pub put-decimal-requires-in-Satisfied : goal.put-decimal-requires-in-Satisfied
-put-decimal-requires-in-Satisfied c = omega (arith, decimal_short c.in-Satisfied.elements (omega arith))
+pub put_decimal-requires-in-Satisfied : goal.put_decimal-requires-in-Satisfied
+put_decimal-requires-in-Satisfied c = omega (arith, decimal_short c.in-Satisfied.elements (omega arith))
 
-pub put-decimal-at-requires : goal.put-decimal-at-requires
-put-decimal-at-requires c = omega (arith, decimal_short c.in-Refused.number (omega arith))
+pub put_decimal-at-requires : goal.put_decimal-at-requires
+put_decimal-at-requires c = omega (arith, decimal_short c.in-Refused.number (omega arith))
 
-pub put-text-at-requires-in-Refused-2 : goal.put-text-at-requires-in-Refused-2
-put-text-at-requires-in-Refused-2 c = omega (arith, decimal_short c.in-Refused.number (omega arith))
+pub put_text-at-requires-in-Refused-2 : goal.put_text-at-requires-in-Refused-2
+put_text-at-requires-in-Refused-2 c = omega (arith, decimal_short c.in-Refused.number (omega arith))
 
-pub put-decimal-requires-in-Refused : goal.put-decimal-requires-in-Refused
-put-decimal-requires-in-Refused c =
+pub put_decimal-requires-in-Refused : goal.put_decimal-requires-in-Refused
+put_decimal-requires-in-Refused c =
     omega (arith, decimal_short c.in-Refused.number (omega arith), decimal_short c.in-Refused.place (omega arith))
 
 pub returns-in-Closed : goal.returns-in-Closed
 returns-in-Closed c =
-    let all = put_put zero-le c.put-text-at.ensures c.put-decimal.ensures in
+    let all = put_put zero-le c.put-text-at.ensures c.put_decimal.ensures in
     record {
       put = put_same (ap text_of c.in-Closed.is) all;
       room = text_ends (Closed c.in-Closed.entries) (omega arith) all;

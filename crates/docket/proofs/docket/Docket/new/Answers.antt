@@ -5,6 +5,6 @@ use Rattle.docket.proofs.docket.Docket.new.Goals as goal
 pub returns : goal.returns
 returns g c = record {
   first = _;
-  new = record { book = c.in-ok-book.ensures; standing = refl; used = c.none.ensures };
+  new = record { book = c.in_ok-book.ensures; standing = refl; used = c.none.ensures };
   moved = none;
 }

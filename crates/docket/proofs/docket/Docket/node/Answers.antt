@@ -3,10 +3,10 @@ use Rattle.std.proofs.lemmas.Result.{err_from_is_err_and}
 use Rattle.docket.proofs.Calls.{node_granted, node_refused}
 use Rattle.docket.proofs.docket.Docket.node.Goals as goal
 
-pub returns-in-err-i : goal.returns-in-err-i
-returns-in-err-i g c =
+pub returns-in_err-i : goal.returns-in_err-i
+returns-in_err-i g c =
     let p = err_from_is_err_and c.from-residual.result c.from-residual.ensures.1 in
-    node_refused _ _ _ _ _ (p.1 ∙ ap Err p.2) c.in-err-i.ensures.answer (record { standing = refl; used = refl })
+    node_refused _ _ _ _ _ (p.1 ∙ ap Err p.2) c.in_err-i.ensures.answer (record { standing = refl; used = refl })
 
 pub returns : goal.returns
-returns g c = node_granted _ _ _ _ c.in-ok-i.ensures.answer (record { standing = refl; used = refl })
+returns g c = node_granted _ _ _ _ c.in_ok-i.ensures.answer (record { standing = refl; used = refl })

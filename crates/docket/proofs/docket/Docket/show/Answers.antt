@@ -4,12 +4,12 @@ use Rattle.judge.specs.Members.{member}
 use Rattle.docket.proofs.Calls.{show_granted, show_refused}
 use Rattle.docket.proofs.docket.Docket.show.Goals as goal
 
-pub returns-in-err-n : goal.returns-in-err-n
-returns-in-err-n g c =
+pub returns-in_err-n : goal.returns-in_err-n
+returns-in_err-n g c =
     let p = err_from_is_err_and c.from-residual.result c.from-residual.ensures.1 in
-    show_refused _ _ _ _ _ _ _ (length c.args.list.now) (omega arith) (p.1 ∙ ap Err p.2) c.in-err-n.ensures refl (record { standing = refl; used = refl })
+    show_refused _ _ _ _ _ _ _ (length c.args.list.now) (omega arith) (p.1 ∙ ap Err p.2) c.in_err-n.ensures refl (record { standing = refl; used = refl })
 
 pub returns : goal.returns
 returns g c =
-    show_granted _ _ _ _ _ _ (length c.args.list.now) (omega arith) c.in-ok-n.ensures (ap g.B.ReadableBook.meaning c.follow.ensures.book)
+    show_granted _ _ _ _ _ _ (length c.args.list.now) (omega arith) c.in_ok-n.ensures (ap g.B.ReadableBook.meaning c.follow.ensures.book)
     c.follow.ensures.next (ap member c.follow.ensures.used)

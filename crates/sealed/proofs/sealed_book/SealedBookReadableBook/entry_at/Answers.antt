@@ -16,18 +16,18 @@ returns-then-i-self c =
     let past : length (lines_in bs from m) ≤ c.args.i = omega (arith, length-lines_in bs from m, c.if-i-self.true) in
     sym (get_or_past (lines_in bs from m) c.args.i no_line past)
 
-pub entry-start-requires : goal.entry-start-requires
-entry-start-requires c =
+pub entry_start-requires : goal.entry_start-requires
+entry_start-requires c =
     let s = c.args.self.now in
     omega (arith, stands_within s.bytes.now s.counts.nodes s.counts.entries s.stands, c.if-i-self.false)
 
-pub raw-entry-at-requires : goal.raw-entry-at-requires
-raw-entry-at-requires c =
+pub raw_entry_at-requires : goal.raw_entry_at-requires
+raw_entry_at-requires c =
     let s = c.args.self.now in
     omega (arith, stands_within s.bytes.now s.counts.nodes s.counts.entries s.stands, c.if-i-self.false, c.entry_start.ensures)
 
-pub live-at-requires : goal.live-at-requires
-live-at-requires c =
+pub live_at-requires : goal.live_at-requires
+live_at-requires c =
     let s = c.args.self.now in
     omega (arith, stands_within s.bytes.now s.counts.nodes s.counts.entries s.stands, c.if-i-self.false, c.entry_start.ensures)
 
@@ -39,4 +39,4 @@ returns c =
     let from = entry_start bs m in
     let at = ap (λ k. k + 7 * c.args.i) c.entry_start.ensures in
     let e = c.entry.ensures ∙ ap entry_of c.raw_entry_at.ensures in
-    (λ i. record { entry = e i; live = c.live-at.ensures i }) ∙ ap (line_at_offset bs) at ∙ sym (get_or-lines_in bs from m c.args.i no_line c.if-i-self.false)
+    (λ i. record { entry = e i; live = c.live_at.ensures i }) ∙ ap (line_at_offset bs) at ∙ sym (get_or-lines_in bs from m c.args.i no_line c.if-i-self.false)

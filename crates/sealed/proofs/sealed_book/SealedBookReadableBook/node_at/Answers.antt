@@ -16,13 +16,13 @@ returns-then-i-self c =
     let past : length (nodes_in bs from n) ≤ c.args.i = omega (arith, length-nodes_in bs from n, c.if-i-self.true) in
     sym (get_or_past (nodes_in bs from n) c.args.i Absent past)
 
-pub node-start-requires : goal.node-start-requires
-node-start-requires c =
+pub node_start-requires : goal.node_start-requires
+node_start-requires c =
     let s = c.args.self.now in
     omega (arith, stands_within s.bytes.now s.counts.nodes s.counts.entries s.stands, c.if-i-self.false)
 
-pub raw-node-at-requires : goal.raw-node-at-requires
-raw-node-at-requires c =
+pub raw_node_at-requires : goal.raw_node_at-requires
+raw_node_at-requires c =
     let s = c.args.self.now in
     omega (arith, stands_within s.bytes.now s.counts.nodes s.counts.entries s.stands, c.if-i-self.false, c.node_start.ensures)
 
