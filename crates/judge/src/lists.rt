@@ -12,7 +12,7 @@ pub trait Blank: Copy {
 
 // Record i, or a blank past the end.
 pub fn record_at<T: Blank>(list: &[T], i: usize) -> T
-    ensures { result ≡ slice_index_or list.now i zeroed }
+    ensures { result ≡ slice_index_or list.now i T.zeroed }
 {
     if i < list.len() { list[i] } else { T::blank() }
 }
@@ -20,7 +20,7 @@ pub fn record_at<T: Blank>(list: &[T], i: usize) -> T
 // Puts records behind the first `len`, if there is room for all of them, and answers whether there is.
 pub fn append<T: Blank>(list: &mut [T], len: usize, records: &[T]) -> bool
     ensures room { result ≡ nat_le (len + length records.now) (length list.old) }
-    ensures list { Appended result zeroed len records.now list.old list.new }
+    ensures list { Appended result T.zeroed len records.now list.old list.new }
 {
     let room = list.len();
     if records.len() > room || len > room - records.len() {
@@ -34,7 +34,7 @@ pub fn append<T: Blank>(list: &mut [T], len: usize, records: &[T]) -> bool
 
 // Blanks the records from `to` up to `len`, so that `to` are left in use.
 pub fn cut_back<T: Blank>(list: &mut [T], to: usize, len: usize)
-    ensures { Blanked zeroed to len list.old list.new }
+    ensures { Blanked T.zeroed to len list.old list.new }
 {
     for i in to..len.min(list.len()) {
         list[i] = T::blank();
@@ -43,7 +43,7 @@ pub fn cut_back<T: Blank>(list: &mut [T], to: usize, len: usize)
 
 // Blanks the whole list.
 pub fn clear<T: Blank>(list: &mut [T])
-    ensures { list.new ≡ replicate (length list.old) zeroed }
+    ensures { list.new ≡ replicate (length list.old) T.zeroed }
 {
     cut_back(list, 0, list.len());
 }

@@ -28,7 +28,7 @@ fn fails(view: &View, list: &[u32], line: Line) -> bool
 
 // The lowest live entry that is false, where the list has the set of each node.
 pub fn first_false<B: ReadableBook>(book: &B, view: &View, list: &[u32]) -> Option<u16>
-    ensures { FindsFalse (meaning book.now) (held view.now) list.now result }
+    ensures { FindsFalse (B.meaning book.now) (held view.now) list.now result }
 {
     let count = book.entry_count();
     for i in 0..count {

@@ -39,7 +39,7 @@ fn present(operand: Operand, b: u16, at: Counts) -> bool
 
 // An op that names an entry.
 fn by_entry<B: ReadableBook>(book: &B, op: Op, step: Step, at: Counts) -> Result<Effect, StepFault>
-    ensures { (br : Branch) → Counted at br → result ≡ by_entry (meaning book.now) br op step }
+    ensures { (br : Branch) → Counted at br → result ≡ by_entry (B.meaning book.now) br op step }
 {
     if step.a >= book.entry_count() {
         return Err(StepFault::NeverEntered);
@@ -63,7 +63,7 @@ fn by_constraint<B: ReadableBook>(
     constraints: &[Constraint],
     edges: &[Edge],
 ) -> Result<Effect, StepFault>
-    ensures { (br : Branch) → Counted at br → Listed no_constraint constraints.now at.constraints br.constraints → Listed no_edge edges.now at.edges br.edges → result ≡ by_constraint (meaning book.now) br op step }
+    ensures { (br : Branch) → Counted at br → Listed no_constraint constraints.now at.constraints br.constraints → Listed no_edge edges.now at.edges br.edges → result ≡ by_constraint (B.meaning book.now) br op step }
 {
     let a = step.a as usize;
     let b = step.b as usize;
@@ -84,7 +84,7 @@ fn decide<B: ReadableBook>(
     constraints: &[Constraint],
     edges: &[Edge],
 ) -> Result<Effect, StepFault>
-    ensures { (br : Branch) → Counted at br → Listed no_constraint constraints.now at.constraints br.constraints → Listed no_edge edges.now at.edges br.edges → result ≡ decision (meaning book.now) br step }
+    ensures { (br : Branch) → Counted at br → Listed no_constraint constraints.now at.constraints br.constraints → Listed no_edge edges.now at.edges br.edges → result ≡ decision (B.meaning book.now) br step }
 {
     let Some(op) = Op::of(step.op) else {
         return Err(StepFault::Malformed);
@@ -108,7 +108,7 @@ pub(crate) fn take<B: ReadableBook>(
     at: Counts,
 ) -> Result<Taken, StepFault>
     requires { Sound at constraints.old edges.old splits.old }
-    ensures { (br : Branch) (ps : List Pending) → Shown br ps at constraints.old edges.old splits.old → Took (meaning book.now) (lengths constraints.old edges.old splits.old) (λ n σ. Shown σ.branch σ.pending n constraints.new edges.new splits.new) br ps step result }
+    ensures { (br : Branch) (ps : List Pending) → Shown br ps at constraints.old edges.old splits.old → Took (B.meaning book.now) (lengths constraints.old edges.old splits.old) (λ n σ. Shown σ.branch σ.pending n constraints.new edges.new splits.new) br ps step result }
 {
     let effect = decide(book, step, at, constraints, edges)?;
     match apply(effect, constraints, edges, splits, at) {

@@ -15,14 +15,14 @@ returns-then-at-eq0 c =
 
 pub overflow_add-result : goal.overflow_add-result
 overflow_add-result c =
-    let below : c.record-at-latest.result.constraints < c.args.at.constraints =
-    latest_below c.requires.0 c.requires.1 c.args.at _ _ _ c.requires.2 c.record-at-latest.result (omega arith) c.record-at-latest.ensures in
+    let below : c.record_at-latest.result.constraints < c.args.at.constraints =
+    latest_below c.requires.0 c.requires.1 c.args.at _ _ _ c.requires.2 c.record_at-latest.result (omega arith) c.record_at-latest.ensures in
     omega arith
 
 pub returns : goal.returns
 returns c =
     λ br ps s.
-    close_back br ps c.args.at c.args.constraints.now c.args.edges.now c.args.splits.now s c.record-at-latest.result
-    c.cut-back-2.new.list c.append.new.list c.cut-back-3.new.list c.cut_back.new.list (omega arith) c.record-at-latest.ensures
-    c.cut-back-2.auto.list c.append.auto.list c.cut-back-3.auto.list c.cut_back.auto.list
-    c.cut_back.ensures c.cut-back-2.ensures c.cut-back-3.ensures c.append.result c.append.ensures.room c.append.ensures.list
+    close_back br ps c.args.at c.args.constraints.now c.args.edges.now c.args.splits.now s c.record_at-latest.result
+    c.cut_back-2.new.list c.append.new.list c.cut_back-3.new.list c.cut_back.new.list (omega arith) c.record_at-latest.ensures
+    c.cut_back-2.auto.list c.append.auto.list c.cut_back-3.auto.list c.cut_back.auto.list
+    c.cut_back.ensures c.cut_back-2.ensures c.cut_back-3.ensures c.append.result c.append.ensures.room c.append.ensures.list

@@ -6,7 +6,7 @@ use Rattle.judge.proofs.fill.fill.Goals as goal
 
 pub returns-then-list-count : goal.returns-then-list-count
 returns-then-list-count g c =
-    (omega (arith, c.node-count-count.ensures, c.if-list-count.true), refl, refl, blank_zeros _ _ c.clear.ensures)
+    (omega (arith, c.node_count-count.ensures, c.if-list-count.true), refl, refl, blank_zeros _ _ c.clear.ensures)
 
 pub loop-i-init : goal.loop-i-init
 loop-i-init g c = filled_none (g.B.ReadableBook.meaning c.args.book.now) (held c.args.view.now) (g.O.Order.meaning c.args.order.now) _ (blank_zeros _ _ c.clear.ensures)
@@ -16,11 +16,11 @@ loop-i-preserved g c =
     let bk = g.B.ReadableBook.meaning c.args.book.now in
     let i = held c.args.view.now in
     let o = g.O.Order.meaning c.args.order.now in
-    filled_more bk i o c.loop-i.i c.extension.result c.loop-i.list (omega (arith, c.node-count-count.ensures)) (omega arith) c.loop-i.invariant
+    filled_more bk i o c.loop-i.i c.extension.result c.loop-i.list (omega (arith, c.node_count-count.ensures)) (omega arith) c.loop-i.invariant
     (subst (λ n. SetOfNode i o c.loop-i.list n c.extension.result) c.node_at.ensures c.extension.ensures)
 
 pub returns : goal.returns
 returns g c =
     let bk = g.B.ReadableBook.meaning c.args.book.now in
-    let room : length bk.nodes ≤ length c.loop-i.list = omega (arith, c.node-count-count.ensures) in
-    (room, filled_all bk (held c.args.view.now) (g.O.Order.meaning c.args.order.now) c.loop-i.i c.loop-i.list (omega (arith, c.node-count-count.ensures)) (omega (arith, c.node-count-count.ensures)) c.loop-i.invariant)
+    let room : length bk.nodes ≤ length c.loop-i.list = omega (arith, c.node_count-count.ensures) in
+    (room, filled_all bk (held c.args.view.now) (g.O.Order.meaning c.args.order.now) c.loop-i.i c.loop-i.list (omega (arith, c.node_count-count.ensures)) (omega (arith, c.node_count-count.ensures)) c.loop-i.invariant)

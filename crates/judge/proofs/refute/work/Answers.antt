@@ -13,7 +13,7 @@ use Rattle.judge.proofs.refute.work.Goals as goal
 
 pub loop-i-init : goal.loop-i-init
 loop-i-init g c =
-    (c.new-used.ensures, (start, [], begun, shown_start c.start.result _ _ _ c.start.ensures c.requires.constraints-blank c.requires.edges-blank c.requires.splits-blank))
+    (c.new-used.ensures, (start, [], begun, shown_start c.start.result _ _ _ c.start.ensures c.requires.constraints_blank c.requires.edges_blank c.requires.splits_blank))
 
 pub returns-in_default : goal.returns-in_default
 returns-in_default g c =
@@ -34,7 +34,7 @@ returns-in-Err g c =
     let l = c.loop-i in
     let last = c.take.new in
     let same = lengths_same l.constraints c.args.constraints.now l.edges c.args.edges.now l.splits c.args.splits.now l.auto.constraints l.auto.edges l.auto.splits in
-    breaks_off bk ls bs l.i c.step-at-step.result c.step-at-step.ensures l.open c.in-Some.at c.in-Some.is l.constraints l.edges l.splits same l.invariant.1
+    breaks_off bk ls bs l.i c.step_at-step.result c.step_at-step.ensures l.open c.in-Some.at c.in-Some.is l.constraints l.edges l.splits same l.invariant.1
     c.args.steps c.in-Err.fault c.at.result (ShownIn last.constraints last.edges last.splits) (omega arith) c.at.ensures c.in-Err.ensures
 
 pub loop-i-preserved : goal.loop-i-preserved
@@ -46,8 +46,8 @@ loop-i-preserved g c =
     let last = c.take.new in
     let same = lengths_same l.constraints c.args.constraints.now l.edges c.args.edges.now l.splits c.args.splits.now l.auto.constraints l.auto.edges l.auto.splits in
     let then_same = lengths_same last.constraints l.constraints last.edges l.edges last.splits l.splits c.take.auto.constraints c.take.auto.edges c.take.auto.splits ∙ same in (
-      marks_next bs l.i c.step-at-step.result l.used.marks c.note.new.self.marks c.step-at-step.ensures l.invariant.0 c.note.ensures,
-      goes_on bk ls bs l.i c.step-at-step.result c.step-at-step.ensures l.open c.in-Some.at c.in-Some.is l.constraints l.edges l.splits same l.invariant.1
+      marks_next bs l.i c.step_at-step.result l.used.marks c.note.new.self.marks c.step_at-step.ensures l.invariant.0 c.note.ensures,
+      goes_on bk ls bs l.i c.step_at-step.result c.step_at-step.ensures l.open c.in-Some.at c.in-Some.is l.constraints l.edges l.splits same l.invariant.1
           last.constraints last.edges last.splits c.in-Ok.taken then_same c.in-Ok.ensures,
     )
 

@@ -34,4 +34,4 @@ loop-i-preserved g c = λ o f s j e h live.
 pub returns : goal.returns
 returns g c = λ o f s j e live.
     let there = live_within (g.B.ReadableBook.meaning c.args.book.now) j e live in
-    c.loop-i.invariant o f s j e (omega (arith, there, c.entry-count-count.ensures)) live
+    c.loop-i.invariant o f s j e (omega (arith, there, c.entry_count-count.ensures)) live

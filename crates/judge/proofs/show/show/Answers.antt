@@ -15,7 +15,7 @@ returns-in_err-view g c =
     let bk = g.B.ReadableBook.meaning c.args.book.now in
     let o = g.O.Order.meaning c.args.order.now in
     let list = c.clear.new.list in
-    let p = err_from_is_err_and c.from-residual.result c.from-residual.ensures.1 in
+    let p = err_from_is_err_and c.from_residual.result c.from_residual.ensures.1 in
     promised bk bs o list (g.B.ReadableBook.lawful c.args.book.now).well_formed _ _ (omega arith)
     (subst (ShowAnswer bk bs o list) (sym (p.1 ∙ ap Err p.2)) (unread bk o list bs _ c.in_err-view.ensures.answer (blank_zeros _ _ c.clear.ensures)))
 

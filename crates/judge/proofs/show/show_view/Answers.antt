@@ -16,7 +16,7 @@ returns-in_err-fill g c = λ bs whole e.
     let v = c.args.view.now in
     let o = g.O.Order.meaning c.args.order.now in
     let bk = g.B.ReadableBook.meaning c.args.book.now in
-    let p = err_from_is_err_and c.from-residual.result c.from-residual.ensures.1 in
+    let p = err_from_is_err_and c.from_residual.result c.from_residual.ensures.1 in
     subst (ShowAnswer bk bs o c.fill.new.list) (sym (p.1 ∙ ap Err p.2))
     (at_list bk (held v) o _ bs whole e (held_valid v)
     (g.O.Order.strict c.args.order.now) (sym c.size-size.ensures ∙ c.if-size.false ∙ c.size.ensures)

@@ -18,9 +18,9 @@ returns-then-a-at g c =
 pub returns : goal.returns
 returns g c =
     λ br n cs es.
-    constraint_found _ br c.args.op c.args.step c.record-at-c.result c.record-at-other.result c.node_at.result c.record-at-edge.result c.args.at.labels _
+    constraint_found _ br c.args.op c.args.step c.record_at-c.result c.record_at-other.result c.node_at.result c.record_at-edge.result c.args.at.labels _
     (omega (arith, n.constraints))
     (ap (λ v. there v br c.args.step.b) (sym c.second.ensures) ∙ sym (c.present.ensures br n) ∙ c.if-not-present.false)
-    (c.record-at-c.ensures ∙ cs.held c.args.step.a) c.node_at.ensures (c.record-at-edge.ensures ∙ es.held c.args.step.b)
-    (c.record-at-other.ensures ∙ cs.held c.args.step.b) (sym n.labels)
-    (c.ok-or.ensures.value ∙ ap (λ v. ok_or v Misfit) c.expand.ensures)
+    (c.record_at-c.ensures ∙ cs.held c.args.step.a) c.node_at.ensures (c.record_at-edge.ensures ∙ es.held c.args.step.b)
+    (c.record_at-other.ensures ∙ cs.held c.args.step.b) (sym n.labels)
+    (c.ok_or.ensures.value ∙ ap (λ v. ok_or v Misfit) c.expand.ensures)

@@ -20,12 +20,12 @@ returns-then-not-line g c =
     λ br n.
     entry_struck _ br c.args.op c.args.step (omega arith)
     (ap (λ v. there v br c.args.step.b) (sym c.second.ensures) ∙ sym (c.present.ensures br n) ∙ c.if-not-present.false)
-    c.entry-at-line.result c.entry-at-line.ensures (not-true _ c.if-not-line.true)
+    c.entry_at-line.result c.entry_at-line.ensures (not-true _ c.if-not-line.true)
 
 pub returns : goal.returns
 returns g c =
     λ br n.
     entry_found _ br c.args.op c.args.step (omega arith)
     (ap (λ v. there v br c.args.step.b) (sym c.second.ensures) ∙ sym (c.present.ensures br n) ∙ c.if-not-present.false)
-    c.entry-at-line.result c.entry-at-line.ensures _ (not-false _ c.if-not-line.false)
-    (c.ok-or.ensures.value ∙ ap (λ v. ok_or v Misfit) c.cite.ensures)
+    c.entry_at-line.result c.entry_at-line.ensures _ (not-false _ c.if-not-line.false)
+    (c.ok_or.ensures.value ∙ ap (λ v. ok_or v Misfit) c.cite.ensures)

@@ -16,8 +16,8 @@ put_decimal-end-requires t c =
 
 pub put_digit-requires-2 : goal.put_digit-requires-2
 put_digit-requires-2 t c =
-    (omega arith, omega (arith, length_more c.args.n c.if-n-lt10.false, c.requires, c.put-decimal-end.ensures.end_is))
+    (omega arith, omega (arith, length_more c.args.n c.if-n-lt10.false, c.requires, c.put_decimal-end.ensures.end_is))
 
 pub returns : goal.returns
 returns t c =
-    put_same (decimal_more c.args.n c.if-n-lt10.false) (put_put (omega (arith, c.requires)) c.put-decimal-end.ensures c.put-digit-2.ensures)
+    put_same (decimal_more c.args.n c.if-n-lt10.false) (put_put (omega (arith, c.requires)) c.put_decimal-end.ensures c.put_digit-2.ensures)

@@ -24,7 +24,7 @@ put_decimal-requires-in-Refused c =
 
 pub returns-in-Closed : goal.returns-in-Closed
 returns-in-Closed c =
-    let all = put_put zero-le c.put-text-at.ensures c.put_decimal.ensures in
+    let all = put_put zero-le c.put_text-at.ensures c.put_decimal.ensures in
     record {
       put = put_same (ap text_of c.in-Closed.is) all;
       room = text_ends (Closed c.in-Closed.entries) (omega arith) all;
@@ -32,7 +32,7 @@ returns-in-Closed c =
 
 pub returns-in-Satisfied : goal.returns-in-Satisfied
 returns-in-Satisfied c =
-    let all = put_put zero-le c.put-text-at-in-Satisfied.ensures c.put-decimal-in-Satisfied.ensures in
+    let all = put_put zero-le c.put_text-at-in-Satisfied.ensures c.put_decimal-in-Satisfied.ensures in
     record {
       put = put_same (ap text_of c.in-Satisfied.is) all;
       room = text_ends (Satisfied c.in-Satisfied.elements) (omega arith) all;
@@ -40,8 +40,8 @@ returns-in-Satisfied c =
 
 pub returns-in-Refused : goal.returns-in-Refused
 returns-in-Refused c =
-    let number = put_put zero-le c.put-text-at-in-Refused.ensures c.put-decimal-at.ensures in
-    let all = put_put zero-le (put_put zero-le number c.put-text-at-in-Refused-2.ensures) c.put-decimal-in-Refused.ensures in
+    let number = put_put zero-le c.put_text-at-in-Refused.ensures c.put_decimal-at.ensures in
+    let all = put_put zero-le (put_put zero-le number c.put_text-at-in-Refused-2.ensures) c.put_decimal-in-Refused.ensures in
     record {
       put = put_same (ap text_of c.in-Refused.is) all;
       room = text_ends (Refused c.in-Refused.number c.in-Refused.place) (omega arith, omega arith) all;
