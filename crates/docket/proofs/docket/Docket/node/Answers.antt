@@ -5,7 +5,7 @@ use Rattle.docket.proofs.docket.Docket.node.Goals as goal
 
 pub returns-in_err-i : goal.returns-in_err-i
 returns-in_err-i g c =
-    let p = err_from_is_err_and c.from-residual.result c.from-residual.ensures.1 in
+    let p = err_from_is_err_and c.from_residual.result c.from_residual.ensures.1 in
     node_refused _ _ _ _ _ (p.1 ∙ ap Err p.2) c.in_err-i.ensures.answer (record { standing = refl; used = refl })
 
 pub returns : goal.returns

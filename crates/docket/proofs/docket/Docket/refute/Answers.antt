@@ -6,7 +6,7 @@ use Rattle.docket.proofs.docket.Docket.refute.Goals as goal
 
 pub returns-in_err-used : goal.returns-in_err-used
 returns-in_err-used g c =
-    let p = err_from_is_err_and c.from-residual.result c.from-residual.ensures.1 in
+    let p = err_from_is_err_and c.from_residual.result c.from_residual.ensures.1 in
     let a = c.in_err-used.ensures in
     record {
       run = refute_refused _ _ _ _ _ _ (p.1 ∙ ap Err p.2) a.answer refl (record { standing = refl; used = refl });

@@ -6,7 +6,7 @@ use Rattle.docket.proofs.docket.Docket.show.Goals as goal
 
 pub returns-in_err-n : goal.returns-in_err-n
 returns-in_err-n g c =
-    let p = err_from_is_err_and c.from-residual.result c.from-residual.ensures.1 in
+    let p = err_from_is_err_and c.from_residual.result c.from_residual.ensures.1 in
     show_refused _ _ _ _ _ _ _ (length c.args.list.now) (omega arith) (p.1 ∙ ap Err p.2) c.in_err-n.ensures refl (record { standing = refl; used = refl })
 
 pub returns : goal.returns

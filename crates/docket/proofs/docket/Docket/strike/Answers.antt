@@ -9,7 +9,7 @@ use Rattle.docket.proofs.docket.Docket.strike.Goals.{then-has, else-has}
 
 pub returns-in_err-strike : goal.returns-in_err-strike
 returns-in_err-strike g c =
-    let p = err_from_is_err_and c.from-residual.result c.from-residual.ensures.1 in
+    let p = err_from_is_err_and c.from_residual.result c.from_residual.ensures.1 in
     strike_refused _ _ _ _ _ (p.1 ∙ ap Err p.2) c.in_err-strike.ensures (record { standing = refl; used = refl })
 
 pub returns : goal.returns
