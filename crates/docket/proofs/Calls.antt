@@ -1,5 +1,5 @@
 -- A call as one event of a run. Assumes nothing.
-use Rattle.std.proofs.Common.{◌≡◌, ℕ, Bool, true, false, List, [], ◌∷◌, length, Ok, Err, Result, sym, refl, ap, ◌∙◌, subst, arith}
+use Rattle.std.proofs.Common.{◌≡◌, ℕ, Bool, List, [], ◌∷◌, length, Ok, Err, Result, sym, refl, ap, ◌∙◌, subst, arith}
 use Rattle.logic.specs.declared.records.RawNode.{RawNode}
 use Rattle.logic.specs.declared.records.RawEntry.{RawEntry}
 use Rattle.logic.specs.declared.tableau.Constraint.{Constraint}

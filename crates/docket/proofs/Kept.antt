@@ -1,5 +1,5 @@
 -- What every run keeps. Assumes nothing.
-use Rattle.std.proofs.Common.{◌≡◌, ℕ, Bool, true, false, List, [], ◌∷◌, ◌++◌, Ok, Err, sym, refl, ap, ◌∙◌, subst}
+use Rattle.std.proofs.Common.{◌≡◌, ℕ, Bool, true, List, [], ◌∷◌, ◌++◌, Ok, Err, sym, refl, ap, ◌∙◌, subst}
 use Rattle.logic.specs.declared.records.Line.{Line}
 use Rattle.logic.specs.declared.tableau.Step.{Step}
 use Rattle.logic.specs.Written.{node_of, entry_of}
@@ -16,7 +16,6 @@ use Rattle.judge.specs.Refutations.{Refutation}
 use Rattle.docket.specs.Events.{Event, Event.node, Event.enter, Event.strike, Event.refute, Event.show, Event.standing}
 use Rattle.docket.specs.Runs.{State, Moves, Moved, Moved.none, Moved.then, New, Run}
 use Rattle.docket.specs.Histories.{last_steps}
-use Rattle.docket.proofs.Changes.{live_at}
 use Rattle.docket.proofs.KeptBook.{BookKept, quiet, book_node, book_enter, book_strike, book_new}
 use Rattle.docket.proofs.KeptStanding.{Core, StandingKept, standing_new, stay, standing_node, standing_enter, standing_strike, standing_refute, standing_show}
 

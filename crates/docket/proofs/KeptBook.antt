@@ -1,22 +1,20 @@
 -- What every run keeps of the book: it is what the granted calls made of it. Assumes nothing.
-use Rattle.std.proofs.Common.{◌≡◌, ℕ, zero, suc, ◌+◌, ◌<◌, ◌≤◌, Bool, true, false, ◌⊎◌, List, [], ◌∷◌, ◌++◌, map, length, get_or, set, Ok, Err, Decides, sym, refl, ap, ◌∙◌, subst, inl, inr, arith}
+use Rattle.std.proofs.Common.{◌≡◌, ℕ, zero, suc, Bool, true, ◌⊎◌, List, [], ◌∷◌, ◌++◌, map, length, get_or, set, Ok, Decides, sym, refl, ap, ◌∙◌, subst, inl, inr, arith}
 use Rattle.std.proofs.lemmas.List.{map-append, length_push}
-use Rattle.std.proofs.lemmas.Bool.{cases_lt, cases_eq, false≢true}
-use Rattle.std.proofs.lemmas.Bool.Decides.{Decides-at, Decides-like}
+use Rattle.std.proofs.lemmas.Bool.{cases_lt, false≢true}
+use Rattle.std.proofs.lemmas.Bool.Decides.{Decides-like}
 use Rattle.logic.specs.declared.records.RawNode.{RawNode}
-use Rattle.logic.specs.declared.records.Entry.{Entry}
 use Rattle.logic.specs.declared.records.RawEntry.{RawEntry}
 use Rattle.logic.specs.declared.records.Line.{Line}
 use Rattle.logic.specs.Written.{node_of, entry_of}
-use Rattle.logic.specs.Books.{Book, empty, line_at, no_line, with_node, with_entry, with_strike, struck}
+use Rattle.logic.specs.Books.{Book, empty, no_line, with_node, with_entry, with_strike, struck}
 use Rattle.logic.specs.Lawful.{Lawful}
 use Rattle.logic.specs.Refusals.{node_refusal, entry_refusal}
 use Rattle.logic.proofs.Lawfulness.{lawful_empty, lawful_with_strike}
 use Rattle.logic.proofs.Refusing.{node_granted, entry_granted}
-use Rattle.docket.specs.declared.fault.Fault.{Fault}
-use Rattle.docket.specs.Events.{Event, Event.node, Event.enter, Event.strike, Event.refute, Event.show, Event.standing}
+use Rattle.docket.specs.Events.{Event, Event.node, Event.enter, Event.strike}
 use Rattle.docket.specs.Histories.{granted_nodes, granted_entries, Removes, Stands, Stands.took, Stands.since, Takes}
-use Rattle.docket.proofs.Changes.{live_at, live_there, enter_before, enter_here, strike_other, strike_here, strike_apart}
+use Rattle.docket.proofs.Changes.{live_at, live_there, enter_before, enter_here, strike_other, strike_apart}
 
 pub record BookKept (h : List Event) (bk : Book) : Type 0 where
   pub lawful : Lawful bk

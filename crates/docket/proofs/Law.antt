@@ -1,5 +1,5 @@
 -- The law of all runs. Assumes nothing.
-use Rattle.std.proofs.Common.{◌≡◌, ℕ, Bool, true, false, ◌↔◌, List, [], ◌∷◌, Ok, Err, sym, refl, ap, ◌∙◌, subst}
+use Rattle.std.proofs.Common.{◌≡◌, Bool, true, false, ◌↔◌, List, [], Ok, Err, sym, refl, ◌∙◌, subst}
 use Rattle.std.proofs.lemmas.Bool.{false≢true}
 use Rattle.logic.specs.Books.{Book}
 use Rattle.logic.specs.Tableaux.{names}
@@ -8,12 +8,12 @@ use Rattle.models.specs.Meanings.{Fits, meant}
 use Rattle.models.specs.Encodings.{model_bytes}
 use Rattle.models.proofs.PairEncoding.{models_encoded}
 use Rattle.docket.specs.declared.standing.Standing.{Standing}
-use Rattle.docket.specs.declared.standing.Standing.TheVariants.{Open, Refuted, Shown}
+use Rattle.docket.specs.declared.standing.Standing.TheVariants.{Refuted, Shown}
 use Rattle.docket.specs.Standings.{Next, struck_as}
 use Rattle.docket.specs.Events.{Event, Event.node, Event.enter, Event.strike, Event.refute, Event.show, Event.standing}
-use Rattle.docket.specs.Runs.{State, Moves, Moved, Moved.none, Moved.then, New, Run}
+use Rattle.docket.specs.Runs.{State, Moves, Moved, Moved.none, Moved.then, New}
 use Rattle.docket.specs.Histories.{last_steps, Tabled, Stood, Stood.opened, Stood.followed, Lifts, Takes}
-use Rattle.docket.specs.Laws.{Law, Answered, Closing, Modelling, StepLaw, DocketLaw, ModelsHanded}
+use Rattle.docket.specs.Laws.{Answered, Closing, Modelling, StepLaw, DocketLaw, ModelsHanded}
 use Rattle.docket.proofs.Table.{open_refuted, open_shown, sure_entered, sure_struck, sure_closed, sure_satisfied, closed_next, satisfied_next}
 use Rattle.docket.proofs.KeptStanding.{core_no_model, not_shown, not_refuted}
 use Rattle.docket.proofs.Kept.{KeptRun, refutation_core, kept_run}

@@ -2,7 +2,7 @@
 use Rattle.std.proofs.Common.{◌≡◌, ℕ, Bool, true, false, sym, refl, ◌∙◌, arith}
 use Rattle.docket.specs.declared.standing.Standing.{Standing}
 use Rattle.docket.specs.declared.standing.Standing.TheVariants.{Open, Refuted, Shown}
-use Rattle.docket.specs.declared.standing.Granted.TheVariants.{Entered, StruckUsed, StruckOther, Closed, Satisfied}
+use Rattle.docket.specs.declared.standing.Granted.TheVariants.{Entered, Closed, Satisfied}
 use Rattle.docket.specs.Standings.{Next, struck_as}
 
 pub open_refuted : Open ≡ Refuted → ⊥

@@ -2,7 +2,7 @@
 -- member: an entry is in the set. members: how many are. noted, marks_of: those that
 -- steps name.
 -- Assumes nothing.
-use Rattle.std.specs.Prelude.{ℕ, ◌+◌, Bool, true, false, cond, ◌||◌, List, [], ◌∷◌, set, replicate, ◌==◌, slice_index_or, slice_set}
+use Rattle.std.specs.Prelude.{ℕ, ◌+◌, Bool, true, false, cond, ◌||◌, List, [], ◌∷◌, replicate, ◌==◌, slice_index_or, slice_set}
 use Rattle.logic.specs.declared.tableau.Step.{Step}
 use Rattle.judge.specs.declared.used.Used.{Used}
 

@@ -1,11 +1,10 @@
 -- The pairs of a model are its "better". Assumes nothing.
-use Rattle.std.proofs.Common.{◌≡◌, ℕ, ◌+◌, ◌-◌, ◌*◌, ◌/◌, ◌%◌, ◌<◌, ◌≤◌, length, sym, refl, ap, ◌∙◌, subst, arith}
+use Rattle.std.proofs.Common.{◌≡◌, ℕ, ◌+◌, ◌*◌, ◌/◌, ◌%◌, ◌<◌, ◌≤◌, length, sym, refl, ap, ◌∙◌, subst, arith}
 use Rattle.logic.specs.Models.{Model}
 use Rattle.orders.specs.Bytes.{byte}
 use Rattle.orders.specs.Masks.{has, Within}
 use Rattle.orders.specs.PairLaws.{paired, WholeRows, LawfulRow}
 use Rattle.orders.proofs.Strictness.{rows_strict, word_past}
-use Rattle.models.specs.Fields.{size}
 use Rattle.models.proofs.ByteTables.{table_length, table_at, table_small, digit_small, word_of}
 use Rattle.models.proofs.Encoding.{encoded}
 use Rattle.models.proofs.ModelMasks.{mask_small, mask_within, mask_at}

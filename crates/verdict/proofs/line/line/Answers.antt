@@ -1,4 +1,4 @@
-use Rattle.std.proofs.Common.{◌+◌, ◌++◌, drop, sym, ap, ◌∙◌, zero-le, arith}
+use Rattle.std.proofs.Common.{◌++◌, drop, sym, ap, ◌∙◌, zero-le, arith}
 use Rattle.verdict.specs.Lines.{line_of}
 use Rattle.verdict.proofs.Pieces.{put_put}
 use Rattle.verdict.proofs.line.line.Goals as goal

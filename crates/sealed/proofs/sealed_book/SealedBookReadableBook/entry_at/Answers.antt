@@ -2,7 +2,7 @@ use Rattle.std.proofs.Common.{◌+◌, ◌*◌, ◌≤◌, length, sym, ap, ◌�
 use Rattle.std.proofs.lemmas.List.{get_or_past}
 use Rattle.logic.specs.Written.{entry_of}
 use Rattle.logic.specs.Books.{no_line}
-use Rattle.sealed.specs.Reading.{raw_entry_at, entry_start, lines_in, line_at_offset}
+use Rattle.sealed.specs.Reading.{entry_start, lines_in, line_at_offset}
 use Rattle.sealed.proofs.Opening.{stands_within}
 use Rattle.sealed.proofs.Rows.{length-lines_in, get_or-lines_in}
 use Rattle.sealed.proofs.sealed_book.SealedBookReadableBook.entry_at.Goals as goal
