@@ -7,21 +7,23 @@ use books::slot_table::SlotTable;
 use docket::docket::Docket;
 use models::sample::model_bytes;
 use orders::pairs::Pairs;
+use std::alloc::Global;
+use std::process::Abort;
 use std::test::*;
 
 const PAIRS: [u8; 8] = [2, 0, 0, 0, 0, 0, 0, 0];
 
 // A shown docket over the sample book.
-fn shown(rt: HostRuntime) -> Result<Docket<SlotTable>, Fail> {
-    let mut docket: Docket<SlotTable> = Docket::new(rt.alloc())?;
+fn shown(rt: &impl Abort, heap: Global) -> Result<Docket<SlotTable>, Fail> {
+    let mut docket: Docket<SlotTable> = Docket::new(heap)?;
     write_sample(&mut docket);
-    assert_eq!(show(&mut docket, &PAIRS), Answer::Granted(2));
+    assert_eq!(rt; show(&mut docket, &PAIRS), Answer::Granted(2));
     Ok(docket)
 }
 
 #[test]
 fn of_the_book(rt: HostRuntime) -> Result<(), Fail> {
-    let mut d = shown(rt)?;
+    let mut d = shown(&rt, rt.alloc())?;
     assert_eq!(rt; node(&mut d, 9, 0, 0), Answer::Refused(Call::Node, 2, 7));
     assert_eq!(rt; node(&mut d, 2, 64, 0), Answer::Refused(Call::Node, 3, 7));
     assert_eq!(rt; node(&mut d, 3, 7, 0), Answer::Refused(Call::Node, 4, 7));
@@ -66,7 +68,7 @@ fn of_a_full_book(rt: HostRuntime) -> Result<(), Fail> {
 
 #[test]
 fn of_a_tableau(rt: HostRuntime) -> Result<(), Fail> {
-    let mut d = shown(rt)?;
+    let mut d = shown(&rt, rt.alloc())?;
     assert_eq!(rt; refute(&mut d, &[1]), Answer::Refused(Call::Refute, 7, 1));
     assert_eq!(rt;
         refute(&mut d, &[14, 0, 0, 0, 0]),
@@ -91,7 +93,7 @@ fn of_a_tableau(rt: HostRuntime) -> Result<(), Fail> {
 
 #[test]
 fn of_a_model(rt: HostRuntime) -> Result<(), Fail> {
-    let mut d = shown(rt)?;
+    let mut d = shown(&rt, rt.alloc())?;
     let order = Pairs::new();
     let mut bytes = model_bytes();
     match d.show(&[], &order, &mut []) {

@@ -1,6 +1,6 @@
 -- The steps of a closed tableau within the limits are written in bytes. Assumes nothing.
 use Rattle.std.proofs.Common.{◌≡◌, ℕ, zero, suc, ◌+◌, ◌*◌, ◌/◌, ◌%◌, ◌<◌, ◌≤◌, List, [], ◌∷◌, ◌++◌, length, get_or, drop, sym, refl, ap, ◌∙◌, arith, lit<, lit≤, length-append}
-use Rattle.std.specs.List.{AllByRecursion as All}
+use Rattle.std.specs.List.{AllByRecursion}
 use Rattle.std.proofs.lemmas.List.{get_or-drop}
 use Rattle.std.proofs.ByRecursion.{All-append}
 use Rattle.logic.specs.declared.tableau.Constraint.{Constraint}
@@ -64,7 +64,7 @@ read_back ss =
 abbrev Small : Step → Type 0
 Small s = (s.op < 256) × (s.a < 65536) × (s.b < 65536)
 
-small_bytes : (ss : List Step) → All Small ss → Bytes (encoded ss)
+small_bytes : (ss : List Step) → AllByRecursion Small ss → Bytes (encoded ss)
 small_bytes [] h = tt
 small_bytes (s ∷ ss) h =
     let a : s.a < 65536 = h.0.1 in
@@ -147,7 +147,7 @@ module _ (bk : Book) (formed : WellFormed bk) where
     closes_small (bottom_holds says at) = (lit< tt, by_constraint _ says.within, lit< tt)
     closes_small (top_fails says at) = (lit< tt, by_constraint _ says.within, lit< tt)
 
-  small : {br : Branch} (t : Closed bk br) (j k : ℕ) → Bounded k br → br.next ≤ 256 → k + length (writing t) ≤ 8192 → AfterEachStep FewLabels j t → All Small (writing t)
+  small : {br : Branch} (t : Closed bk br) (j k : ℕ) → Bounded k br → br.next ≤ 256 → k + length (writing t) ≤ 8192 → AfterEachStep FewLabels j t → AllByRecursion Small (writing t)
   small (close r) j k h l few f = (closes_small k (omega arith) _ h l r, tt)
   small (extend r t) j k h l few f =
       (extends_small k (omega arith) _ h l r, small t j (suc k) (grows k h r) f.0 (omega arith) f.1)

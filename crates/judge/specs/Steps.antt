@@ -3,7 +3,7 @@
 -- encoded: the bytes of steps. Bytes: numbers that are bytes.
 -- Assumes nothing.
 use Rattle.std.specs.Prelude.{◌≡◌, ℕ, zero, suc, ◌+◌, ◌*◌, ◌/◌, ◌%◌, ◌<◌, ◌≤◌, List, [], ◌∷◌, ◌++◌, length, slice_index}
-use Rattle.std.specs.List.{AllByRecursion as All}
+use Rattle.std.specs.List.{AllByRecursion}
 use Rattle.logic.specs.declared.tableau.Step.{Step}
 use Rattle.logic.specs.Rules.{step}
 
@@ -35,4 +35,4 @@ encoded [] = []
 encoded (s ∷ ss) = s.op ∷ s.a % 256 ∷ s.a / 256 ∷ s.b % 256 ∷ s.b / 256 ∷ encoded ss
 
 abbrev pub Bytes : List ℕ → Type 0
-Bytes bs = All (λ b. b < 256) bs
+Bytes bs = AllByRecursion (λ b. b < 256) bs

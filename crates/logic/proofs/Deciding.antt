@@ -3,7 +3,7 @@ use Rattle.std.proofs.Common.{◌≡◌, ℕ, zero, suc, ◌<◌, Bool, true, fa
 use mathlib.Core.Logic.Dec
 use mathlib.Core.Logic.{∥∥₁_elim}
 use native.Mathlib.Decide.{dec_le, dec_lt}
-use Rattle.std.specs.List.{AllByRecursion as All}
+use Rattle.std.specs.List.{AllByRecursion}
 use Rattle.std.proofs.lemmas.Bool.{false≢true}
 use Rattle.logic.specs.Concepts.{concepts}
 use Rattle.logic.specs.Books.{Book, node_at}
@@ -32,7 +32,7 @@ below_dec P d (suc n) = go (d n) (below_dec P d n)
     go (no q) r = no (λ f. q (f n (omega arith)))
 
 -- a decided property holds of each element, or not
-all_dec : {A : Type 0} (P : A → Type 0) → ((x : A) → Dec (P x)) → (xs : List A) → Dec (All P xs)
+all_dec : {A : Type 0} (P : A → Type 0) → ((x : A) → Dec (P x)) → (xs : List A) → Dec (AllByRecursion P xs)
 all_dec P d [] = yes tt
 all_dec P d (x ∷ xs) = Dec.and (d x) (all_dec P d xs)
 

@@ -2,7 +2,7 @@
 -- Assumes nothing.
 use Rattle.std.proofs.Common.{◌≡◌, ℕ, zero, suc, ◌+◌, ◌<◌, ◌≤◌, true, ◌&&◌, ◌||◌, ltb, List, [], ◌∷◌, ◌++◌, length, get_or, take, drop, set, sym, refl, ap, ◌∙◌, subst, arith, lit≤}
 use native.Mathlib.Decide.{dec_lt}
-use Rattle.std.specs.List.{AllByRecursion as All}
+use Rattle.std.specs.List.{AllByRecursion}
 use Rattle.std.proofs.lemmas.List.{length_push, length-set, length-take, get_or-take, get_or_past, take-append-drop}
 use Rattle.std.proofs.ByRecursion.{All-get_or, All-push, All-take, All-weaker}
 use Rattle.std.proofs.lemmas.Bool.{and_parts, and_from, ltb-true, lt-ltb}
@@ -109,7 +109,7 @@ front_within : (i : ℕ) (ns : List Node) (k : ℕ) → k < length (take i ns) �
 front_within i ns k h = omega (arith, length-take i ns)
 
 -- what holds of each entry holds after a strike
-all_struck : (P : Entry → Type 0) (ls : List Line) (i : ℕ) → All (λ l. P l.entry) ls → All (λ l. P l.entry) (set ls i (struck (get_or ls i no_line)))
+all_struck : (P : Entry → Type 0) (ls : List Line) (i : ℕ) → AllByRecursion (λ l. P l.entry) ls → AllByRecursion (λ l. P l.entry) (set ls i (struck (get_or ls i no_line)))
 all_struck P [] i h = tt
 all_struck P (l ∷ ls) zero h = h
 all_struck P (l ∷ ls) (suc i) h = (h.0, all_struck P ls i h.1)
@@ -135,14 +135,14 @@ module _ (bk : Book) (lawful : Lawful bk) where
       } in
       let below : (i : ℕ) → i < count → node_operands_below count (node_at bk i) ≡ true = λ i h. node_operands_more i count (omega arith) (node_at bk i) (node_parts i (node_at bk i) (w.nodes i h)).2 in
       let alike : (m : Node) → node_operands_below count m ≡ true → node_placed (concepts (ns ++ n ∷ [])) m ≡ node_placed (concepts ns) m = node_placed_alike count (concepts (ns ++ n ∷ [])) (concepts ns) (before n) in
-      let entries : All (λ l. entry_placed (concepts (ns ++ n ∷ [])) l.entry ≡ true) bk.lines = all_both bk.lines w.entries t.entries in
+      let entries : AllByRecursion (λ l. entry_placed (concepts (ns ++ n ∷ [])) l.entry ≡ true) bk.lines = all_both bk.lines w.entries t.entries in
       let place : TypicalityInPlace (with_node bk n) = record {
         nodes = pushed (λ i m. node_placed (concepts (ns ++ n ∷ [])) m ≡ true) ns n node.Absent (λ i h. alike (node_at bk i) (below i h) ∙ t.nodes i h) (alike n (node_parts count n formed).2 ∙ placed);
         entries = entries;
       } in
       record { well_formed = well; in_place = place }
     where
-      all_both : (ls : List Line) → All (λ l. entry_well_formed (length bk.nodes) l.entry ≡ true) ls → All (λ l. entry_placed (concepts bk.nodes) l.entry ≡ true) ls → All (λ l. entry_placed (concepts (bk.nodes ++ n ∷ [])) l.entry ≡ true) ls
+      all_both : (ls : List Line) → AllByRecursion (λ l. entry_well_formed (length bk.nodes) l.entry ≡ true) ls → AllByRecursion (λ l. entry_placed (concepts bk.nodes) l.entry ≡ true) ls → AllByRecursion (λ l. entry_placed (concepts (bk.nodes ++ n ∷ [])) l.entry ≡ true) ls
       all_both [] a b = tt
       all_both (l ∷ ls) a b =
           (entry_placed_alike (length bk.nodes) (concepts (bk.nodes ++ n ∷ [])) (concepts bk.nodes) (before n) l.entry (entry_parts (length bk.nodes) l.entry a.0).2 ∙ b.0, all_both ls a.1 b.1)

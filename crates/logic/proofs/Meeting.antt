@@ -1,6 +1,6 @@
 -- When a branch is true of a model, and what may be added to it. Assumes nothing.
 use Rattle.std.proofs.Common.{◌≡◌, ℕ, ◌+◌, ◌<◌, ◌≤◌, Bool, true, cond, eqb, ltb, List, sym, refl, ◌∙◌, subst, arith}
-use Rattle.std.specs.List.{AllByRecursion as All}
+use Rattle.std.specs.List.{AllByRecursion}
 use Rattle.std.proofs.ByRecursion.{All-get_or, All-append, All-weaker}
 use Rattle.std.proofs.lemmas.Bool.{cond-true, cond-false, cond_both, eq-eqb, ne_eqb, ltb-true, lt-ltb}
 use Rattle.logic.specs.declared.tableau.Form.{Form}
@@ -39,7 +39,7 @@ put_other : (e : ℕ → ℕ) (k y l : ℕ) → l < k → put e k y l ≡ e l
 put_other e k y l h = cond-false (eqb l k) y (e l) (ne_eqb l k (λ q. omega arith))
 
 -- what holds of each element of a list holds of the one at a place
-all_at : {A : Type 0} (P : A → Type 0) {xs : List A} {i : ℕ} {x : A} → All P xs → At xs i x → P x
+all_at : {A : Type 0} (P : A → Type 0) {xs : List A} {i : ℕ} {x : A} → AllByRecursion P xs → At xs i x → P x
 all_at P {xs} {i} {x} h at = subst P at.is (All-get_or P xs i x at.within h)
 
 module _ (bk : Book) (m : Model) where
@@ -55,8 +55,8 @@ module _ (bk : Book) (m : Model) where
     pub inside : (l : ℕ) → e l < m.size
     pub named : (a : ℕ) → a < 32 → e a ≡ m.individual a
     pub started : 32 ≤ br.next
-    pub constraints : All (TrueConstraint e br.next) br.constraints
-    pub edges : All (TrueEdge e br.next) br.edges
+    pub constraints : AllByRecursion (TrueConstraint e br.next) br.constraints
+    pub edges : AllByRecursion (TrueEdge e br.next) br.edges
 
   -- the starting branch is true of every model: each individual's label has its element
   pub begins : (e : ℕ → ℕ) × Meets e start
@@ -79,7 +79,7 @@ module _ (bk : Book) (m : Model) where
   led {e} {br} h s = all_at (TrueEdge e br.next) h.edges s
 
   -- what is true of the model may be added
-  pub grown : {e : ℕ → ℕ} {br : Branch} → Meets e br → (cs : List Constraint) (es : List Edge) → All (TrueConstraint e br.next) cs → All (TrueEdge e br.next) es → Meets e (with br cs es)
+  pub grown : {e : ℕ → ℕ} {br : Branch} → Meets e br → (cs : List Constraint) (es : List Edge) → AllByRecursion (TrueConstraint e br.next) cs → AllByRecursion (TrueEdge e br.next) es → Meets e (with br cs es)
   grown {e} {br} h cs es hc he =
       record {
         inside = h.inside;
@@ -110,7 +110,7 @@ module _ (bk : Book) (m : Model) where
         (omega arith, omega arith, (λ i. linked m r (p i) (q i)) ∙ t)
 
   -- the same of a new label, which stands for element y
-  pub grown_new : {e : ℕ → ℕ} {br : Branch} → Meets e br → (y : ℕ) → y < m.size → (cs : List Constraint) (es : List Edge) → All (TrueConstraint (put e br.next y) (br.next + 1)) cs → All (TrueEdge (put e br.next y) (br.next + 1)) es → Meets (put e br.next y) (with_new br cs es)
+  pub grown_new : {e : ℕ → ℕ} {br : Branch} → Meets e br → (y : ℕ) → y < m.size → (cs : List Constraint) (es : List Edge) → AllByRecursion (TrueConstraint (put e br.next y) (br.next + 1)) cs → AllByRecursion (TrueEdge (put e br.next y) (br.next + 1)) es → Meets (put e br.next y) (with_new br cs es)
   grown_new {e} {br} h y y-in cs es hc he =
       let k = br.next in
       let c = TrueConstraint (put e k y) (k + 1) in

@@ -1,6 +1,6 @@
 -- A record is granted exactly when the book can take it and stay lawful. Assumes nothing.
 use Rattle.std.proofs.Common.{◌≡◌, ℕ, zero, suc, ◌+◌, Bool, true, false, cond, not, ◌&&◌, eqb, leb, [], ◌∷◌, ◌++◌, length, get_or, sym, refl, ap, ◌∙◌, subst, arith}
-use Rattle.std.specs.List.{AllByRecursion as All}
+use Rattle.std.specs.List.{AllByRecursion}
 use Rattle.std.proofs.lemmas.List.{length_push, get_or_push}
 use Rattle.std.proofs.ByRecursion.{All-get_or}
 use Rattle.std.proofs.lemmas.Bool.{and_parts, and_from, leb-false, lt-leb, eqb-true, eq-eqb}
@@ -141,7 +141,7 @@ module _ (bk : Book) (raw : RawEntry) where
       let l : Line = record { entry = e; live = true } in
       let more : length (ls ++ l ∷ []) ≡ length ls + 1 = length_push ls l in
       let here : get_or (ls ++ l ∷ []) (length ls) no_line ≡ l = get_or_push ls l no_line (length ls) refl in
-      let last : (P : Entry → Type 0) → All (λ m. P m.entry) (ls ++ l ∷ []) → P e = λ P all. subst (λ m. P m.entry) here (All-get_or (λ m. P m.entry) (ls ++ l ∷ []) (length ls) no_line (omega (arith, more)) all) in
+      let last : (P : Entry → Type 0) → AllByRecursion (λ m. P m.entry) (ls ++ l ∷ []) → P e = λ P all. subst (λ m. P m.entry) here (All-get_or (λ m. P m.entry) (ls ++ l ∷ []) (length ls) no_line (omega (arith, more)) all) in
       let parts = entry_parts count e (last (λ x. entry_well_formed count x ≡ true) lawful.well_formed.entries) in
       let placed = last (λ x. entry_placed (concepts bk.nodes) x ≡ true) lawful.in_place.entries in
       let is : entry_of raw ≡ e = entry_read e parts.0 raw w in

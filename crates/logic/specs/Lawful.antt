@@ -8,7 +8,7 @@ use Rattle.logic.specs.declared.records.Node.TheVariants as node
 use Rattle.logic.specs.declared.records.Entry.{Entry}
 use Rattle.logic.specs.declared.records.Entry.TheVariants as entry
 use Rattle.logic.specs.Concepts.{Concept, of, concepts, plain, is_typical}
-use Rattle.std.specs.List.{AllByRecursion as All}
+use Rattle.std.specs.List.{AllByRecursion}
 use Rattle.logic.specs.Books.{Book, node_at}
 
 -- it is a node at all
@@ -104,11 +104,11 @@ pub record WellFormed (bk : Book) : Type 0 where
   pub few_nodes : length bk.nodes ≤ 512
   pub few_lines : length bk.lines ≤ 256
   pub nodes : (i : ℕ) → i < length bk.nodes → node_well_formed i (node_at bk i) ≡ true
-  pub entries : All (λ l. entry_well_formed (length bk.nodes) l.entry ≡ true) bk.lines
+  pub entries : AllByRecursion (λ l. entry_well_formed (length bk.nodes) l.entry ≡ true) bk.lines
 
 pub record TypicalityInPlace (bk : Book) : Type 0 where
   pub nodes : (i : ℕ) → i < length bk.nodes → node_placed (concepts bk.nodes) (node_at bk i) ≡ true
-  pub entries : All (λ l. entry_placed (concepts bk.nodes) l.entry ≡ true) bk.lines
+  pub entries : AllByRecursion (λ l. entry_placed (concepts bk.nodes) l.entry ≡ true) bk.lines
 
 pub record Lawful (bk : Book) : Type 0 where
   pub well_formed : WellFormed bk

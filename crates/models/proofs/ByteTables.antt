@@ -1,6 +1,6 @@
 -- Tables of bytes, and numbers in them. Assumes nothing.
 use Rattle.std.proofs.Common.{◌≡◌, ℕ, zero, suc, ◌+◌, ◌*◌, ◌/◌, ◌^◌, ◌<◌, List, length, get_or, refl, ap, arith}
-use Rattle.std.specs.List.{AllByRecursion as All}
+use Rattle.std.specs.List.{AllByRecursion}
 use Rattle.orders.specs.Bytes.{byte, word}
 use Rattle.models.specs.Encodings.{table, digit}
 
@@ -15,7 +15,7 @@ table_at zero f i h = absurd (omega arith)
 table_at (suc n) f zero h = refl
 table_at (suc n) f (suc i) h = table_at n (λ i. f (suc i)) i (omega arith)
 
-pub table_small : (n : ℕ) (f : ℕ → ℕ) → ((i : ℕ) → i < n → f i < 256) → All (λ b. b < 256) (table n f)
+pub table_small : (n : ℕ) (f : ℕ → ℕ) → ((i : ℕ) → i < n → f i < 256) → AllByRecursion (λ b. b < 256) (table n f)
 unfolding table
 table_small zero f h = tt
 table_small (suc n) f h = (h zero (omega arith), table_small n (λ i. f (suc i)) (λ i l. h (suc i) (omega arith)))

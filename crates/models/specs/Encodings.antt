@@ -3,7 +3,7 @@
 -- a model with every such order. ModelsEncoded: they do, and the pairs are such an order.
 -- Assumes nothing.
 use Rattle.std.specs.Prelude.{◌≡◌, ℕ, zero, suc, ◌-◌, ◌*◌, ◌/◌, ◌%◌, ◌<◌, ◌≤◌, cond, List, [], ◌∷◌, ◌==◌, nat_lt}
-use Rattle.std.specs.List.{AllByRecursion as All}
+use Rattle.std.specs.List.{AllByRecursion}
 use Rattle.logic.specs.Models.{Model}
 use Rattle.logic.specs.Likeness.{Alike}
 use Rattle.orders.specs.Masks.{has, mask_of, Preference}
@@ -58,7 +58,7 @@ pub record MeansBetter (m : Model) (o : Preference) : Type 0 where
 
 -- bytes that are free of faults, and that mean the model with every order that is its "better"
 pub record Encoded (m : Model) (bs : List ℕ) : Type 0 where
-  pub bytes : All (λ b. b < 256) bs
+  pub bytes : AllByRecursion (λ b. b < 256) bs
   pub whole : Whole bs
   pub valid : Valid (said bs)
   pub size : (said bs).size ≡ m.size
@@ -66,7 +66,7 @@ pub record Encoded (m : Model) (bs : List ℕ) : Type 0 where
 
 -- pairs that are a strict order, the model's "better"
 pub record Paired (m : Model) (ps : List ℕ) : Type 0 where
-  pub bytes : All (λ b. b < 256) ps
+  pub bytes : AllByRecursion (λ b. b < 256) ps
   pub lawful : PairsLawful ps
   pub means : MeansBetter m (paired ps)
 

@@ -1,7 +1,7 @@
 -- The writing of a lawful book, behind any note, passes and reads back as it was. Assumes nothing.
 use Rattle.std.proofs.Common.{◌≡◌, ℕ, ◌+◌, ◌-◌, ◌*◌, ◌/◌, ◌%◌, ◌<◌, ◌≤◌, Bool, true, ltb, List, [], ◌∷◌, ◌++◌, length, take, drop, sym, refl, ap, ◌∙◌, subst, arith}
 use native.Mathlib.Nat.{mod-add-div}
-use Rattle.std.specs.List.{flat_map, AllByRecursion as All}
+use Rattle.std.specs.List.{flat_map, AllByRecursion}
 use Rattle.std.proofs.lemmas.List.{append_assoc, length-append, length_push, length-take-le, drop_at, drop-append-le, drop-drop, drop_more, get_or-take, take_more, take_all, same_lists, get_or_default}
 use Rattle.std.proofs.ByRecursion.{All-get_or}
 use Rattle.std.proofs.lemmas.Bool.{and_from, le-leb, eq-eqb}
@@ -35,7 +35,7 @@ length-written bk =
 lawful_relit : (ns : List Node) (ls : List Line) (l : Line) (live : Bool) → Lawful (record { nodes = ns; lines = ls ++ l ∷ [] }) → Lawful (record { nodes = ns; lines = ls ++ (record { entry = l.entry; live = live }) ∷ [] })
 lawful_relit ns ls l live h =
     let other : Line = record { entry = l.entry; live = live } in
-    let same : (P : Entry → Type 0) (xs : List Line) → All (λ x. P x.entry) (xs ++ l ∷ []) → All (λ x. P x.entry) (xs ++ other ∷ []) = relit in
+    let same : (P : Entry → Type 0) (xs : List Line) → AllByRecursion (λ x. P x.entry) (xs ++ l ∷ []) → AllByRecursion (λ x. P x.entry) (xs ++ other ∷ []) = relit in
     record {
       well_formed = record {
         few_nodes = h.well_formed.few_nodes;
@@ -46,7 +46,7 @@ lawful_relit ns ls l live h =
       in_place = record { nodes = h.in_place.nodes; entries = same (λ e. entry_placed (concepts ns) e ≡ true) ls h.in_place.entries };
     }
   where
-    relit : (P : Entry → Type 0) (xs : List Line) → All (λ x. P x.entry) (xs ++ l ∷ []) → All (λ x. P x.entry) (xs ++ (record { entry = l.entry; live = live }) ∷ [])
+    relit : (P : Entry → Type 0) (xs : List Line) → AllByRecursion (λ x. P x.entry) (xs ++ l ∷ []) → AllByRecursion (λ x. P x.entry) (xs ++ (record { entry = l.entry; live = live }) ∷ [])
     relit P [] a = a
     relit P (x ∷ xs) a = (a.0, relit P xs a.1)
 

@@ -1,7 +1,7 @@
 -- How decimals are read.
 use Rattle.std.proofs.Common.{◌≡◌, ℕ, zero, suc, ◌+◌, ◌-◌, ◌*◌, ◌^◌, ◌<◌, ◌⊎◌, List, [], ◌∷◌, map, length, get_or, codes, decimal as written, sym, refl, ap, ◌∙◌, inl, inr, arith, rules}
 use Rattle.std.specs.Int.Digits.{digits_of, number_from_digits_after}
-use Rattle.std.specs.List.{AllByRecursion as All}
+use Rattle.std.specs.List.{AllByRecursion}
 use Rattle.std.proofs.lemmas.Fmt.{decimal_digit, decimal-digits_of, decimal-digits_value}
 use Rattle.std.proofs.lemmas.Int.Digits.{all_below_base_digits_of, first_digits_of, number_digits_of}
 use Rattle.std.proofs.ByRecursion.{All-map, All-weaker}
@@ -41,7 +41,7 @@ same zero h = decimal_digit 0 (omega arith)
 same (suc n) h = decimal-digits_of (suc n) (omega arith) h
 
 -- these are words for digits and for what they write
-own : IsNumeralModel (All Digit) (read_on 0)
+own : IsNumeralModel (AllByRecursion Digit) (read_on 0)
 own = numerals_by_fold _ (search rules) read_on (search rules)
 
 -- there is a first byte, and it is a zero only in `0`

@@ -3,7 +3,7 @@
 -- said by how they are read. Of32Bits: the numbers of a verdict fit. DecimalsRead, LinesFit: the theorems.
 -- Assumes nothing.
 use Rattle.std.specs.Prelude.{◌≡◌, ℕ, ◌+◌, ◌-◌, ◌*◌, ◌^◌, ◌<◌, ◌≤◌, ◌⊎◌, List, [], ◌∷◌, length, codes, slice_index}
-use Rattle.std.specs.List.{AllByRecursion as All}
+use Rattle.std.specs.List.{AllByRecursion}
 use Rattle.verdict.specs.declared.Verdict.{Verdict}
 use Rattle.verdict.specs.declared.Verdict.TheVariants.{Closed, Satisfied, Refused}
 use Rattle.verdict.specs.Lines.{decimal, line_of}
@@ -19,7 +19,7 @@ read_on n (b ∷ bs) = read_on (n * 10 + (b - 48)) bs
 
 -- The bytes are digits, they are `0` or do not begin with a zero, and they read as n.
 pub record ReadsAs (n : ℕ) (bs : List ℕ) : Type 0 where
-  pub digits : All Digit bs
+  pub digits : AllByRecursion Digit bs
   pub leading : (bs ≡ codes "0") ⊎ (48 < slice_index bs 0)
   pub value : read_on 0 bs ≡ n
 
