@@ -58,9 +58,9 @@ left_other rs k d h not =
     (ap recorded_nodes front ∙ p.0, ap recorded_marks front ∙ p.1)
 
 -- an item behind the first
-pub get_d_tail : {X : Type 0} (x : X) (xs : List X) (i : ℕ) (d : X) → (i ≡ 0 → ⊥) → get_or (x ∷ xs) i d ≡ get_or xs (i - 1) d
-get_d_tail x xs zero d h = absurd (h refl)
-get_d_tail x xs (suc i) d h = let e : i ≡ suc i - 1 = omega arith in ap (λ k. get_or xs k d) e
+pub get_or-tail : {X : Type 0} (x : X) (xs : List X) (i : ℕ) (d : X) → (i ≡ 0 → ⊥) → get_or (x ∷ xs) i d ≡ get_or xs (i - 1) d
+get_or-tail x xs zero d h = absurd (h refl)
+get_or-tail x xs (suc i) d h = let e : i ≡ suc i - 1 = omega arith in ap (λ k. get_or xs k d) e
 
 -- a push changes only what stands right behind the end
 pub get_or-push_other : {X : Type 0} (xs : List X) (x d : X) (i : ℕ) → (length xs ≡ i → ⊥) → get_or (xs ++ x ∷ []) i d ≡ get_or xs i d

@@ -26,12 +26,12 @@ pub struct Journal {
     nodes: u16,
     entries: u16,
     ghost room: { 1024 ≤ vec_capacity records },
-    ghost counted_nodes: { nodes ≡ length (replay empty (records.items)).nodes },
-    ghost counted_entries: { entries ≡ length (replay empty (records.items)).lines },
-    ghost counted: { vec_len records ≡ nodes + entries + struck_count (replay empty (records.items)).lines },
+    ghost counted_nodes: { nodes ≡ length (replay empty records.items).nodes },
+    ghost counted_entries: { entries ≡ length (replay empty records.items).lines },
+    ghost counted: { vec_len records ≡ nodes + entries + struck_count (replay empty records.items).lines },
     ghost few_nodes: { nodes ≤ 512 },
     ghost few_entries: { entries ≤ 256 },
-    ghost marked: { recorded_marks records.items ≡ plain_marks (replay empty (records.items)).nodes },
+    ghost marked: { recorded_marks records.items ≡ plain_marks (replay empty records.items).nodes },
     ghost lawful: { ∥ Lawful (replay empty records.items) ∥₁ },
 }
 

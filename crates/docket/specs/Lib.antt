@@ -10,7 +10,3 @@ pub mod Runs
 pub mod Histories
 -- the law of all runs
 pub mod Laws
--- the state of a docket
-pub mod Dockets
--- which calls a history has
-pub mod Plays

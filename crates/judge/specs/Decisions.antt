@@ -2,7 +2,7 @@
 -- with the rules of the calculus is proved, and no public promise cites it.
 -- cited, expanded: the effect of an op on an entry and on a constraint. decision: that of a step.
 -- Assumes nothing.
-use Rattle.std.specs.Prelude.{ℕ, Bool, true, false, cond, ◌&&◌, length, get_or, Some, None, Err, Option, Result, ◌==◌, nat_le, nat_lt, slice_index_or}
+use Rattle.std.specs.Prelude.{ℕ, Bool, true, false, cond, ◌&&◌, length, Some, None, Err, Option, Result, ◌==◌, nat_le, nat_lt, slice_index_or}
 use Rattle.std.specs.Option.{ok_or}
 use Rattle.logic.specs.declared.records.Node.{Node}
 use Rattle.logic.specs.declared.records.Node.TheVariants as node
@@ -118,7 +118,7 @@ by_entry bk br o s =
 -- the other ops
 unfoldable pub by_constraint : Book → Branch → Op → Step → Result Effect StepFault
 by_constraint bk br o s =
-    let c : Constraint = get_or br.constraints s.a no_constraint in
+    let c : Constraint = slice_index_or br.constraints s.a no_constraint in
     cond (nat_lt s.a (length br.constraints) && there (operand_of o) br s.b)
     (ok_or (expanded o c (node_at bk c.node) (slice_index_or br.edges s.b no_edge) (slice_index_or br.constraints s.b no_constraint) br.next) Misfit)
     (Err NotThere)

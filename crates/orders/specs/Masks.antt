@@ -1,6 +1,7 @@
 -- Sets of elements as masks of bits, and strict orders by the set of the better elements of each.
 -- has: an element is in a set. all_below, mask_of: the mask of given elements. meeting: two sets have
--- an element in common. Within, Includes: what a set has. Preference: an order. Strict: its laws. by_rows: the order of a table of masks.
+-- an element in common. Within, Includes: what a set has. Preference: an order. Strict: its laws.
+-- by_rows: the order of a table of masks.
 -- Assumes nothing.
 use Rattle.std.specs.Prelude.{◌≡◌, ℕ, zero, suc, ◌+◌, ◌-◌, ◌*◌, ◌/◌, ◌%◌, ◌^◌, ◌<◌, ◌≤◌, min, Bool, true, false, cond, not, List, ◌==◌, bit_and, slice_index}
 

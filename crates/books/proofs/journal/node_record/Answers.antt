@@ -1,7 +1,7 @@
 use Rattle.std.proofs.Common.{true, sym, ◌∙◌}
 use Rattle.std.proofs.lemmas.List.{drop_all}
 use Rattle.logic.specs.declared.records.Node.TheVariants.{Absent}
-use Rattle.books.proofs.Replays.{left_node, left_other, get_d_tail}
+use Rattle.books.proofs.Replays.{left_node, left_other, get_or-tail}
 use Rattle.books.proofs.journal.node_record.Goals as goal
 use Rattle.books.proofs.journal.node_record.Goals.{in-Node+else-left-eq0, in_default}
 
@@ -18,8 +18,8 @@ loop-record-preserved c =
     elim c.match-record.branch [
       | in-Node+else-left-eq0 w ↦
           (let front = left_node c.args.records.now c.loop-record.record-index _ _ _ c.loop-record-test.true w.in-Node.is in
-          let nodes = get_d_tail _ _ c.loop-record.left Absent w.if-left-eq0.false in
-          let marks = get_d_tail _ _ c.loop-record.left true w.if-left-eq0.false in
+          let nodes = get_or-tail _ _ c.loop-record.left Absent w.if-left-eq0.false in
+          let marks = get_or-tail _ _ c.loop-record.left true w.if-left-eq0.false in
           (rw w.left-is (sym nodes ∙ (rw front.0 at c.loop-record.invariant.0)), rw w.left-is (sym marks ∙ (rw front.1 at c.loop-record.invariant.1))))
       | in_default w ↦
           (let front = left_other c.args.records.now c.loop-record.record-index _ c.loop-record-test.true w.in_default.not-Node in
