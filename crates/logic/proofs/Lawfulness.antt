@@ -78,7 +78,7 @@ entry_parts k e h =
     let q = and_parts (entry_within_limits e) (entry_operands_below k e) p.1 in
     (p.0, q.0, q.1)
 
--- at every place of a well_formed book, past the end too, numbers are within their limits and operands there
+-- at every place of a well-formed book, past the end too, numbers are within their limits and operands there
 pub node_within : (bk : Book) → WellFormed bk → (i : ℕ) → (node_within_limits (node_at bk i) ≡ true) × (node_operands_below i (node_at bk i) ≡ true)
 node_within bk w i = go (dec_lt i (length bk.nodes))
   where

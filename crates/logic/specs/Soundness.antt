@@ -16,7 +16,7 @@ use Rattle.logic.specs.Tableaux.{Closed, writing, names}
 abbrev pub NamedTrue : Model → Book → List Step → Type 0
 NamedTrue m bk ss = (i : ℕ) → names ss i ≡ true → HoldsIn m bk (line_at bk i).entry
 
--- Where a closed tableau stands over the starting branch of a well_formed book, no model, of any
+-- Where a closed tableau stands over the starting branch of a well-formed book, no model, of any
 -- size, makes all the entries true that it names.
 abbrev pub Soundness : Type 0
 Soundness = (bk : Book) → WellFormed bk → (t : Closed bk start) (m : Model) → NamedTrue m bk (writing t) → ⊥
