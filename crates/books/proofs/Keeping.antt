@@ -1,7 +1,6 @@
 -- What a journal keeps over its calls, by its records, their number and its two counts. Assumes nothing.
-use Rattle.std.proofs.Common.{◌≡◌, ℕ, ◌+◌, ◌≤◌, Bool, true, List, [], ◌∷◌, ◌++◌, length, vec_items, vec_len, sym, refl, ap, ◌∙◌, arith}
+use Rattle.std.proofs.Common.{◌≡◌, ℕ, ◌+◌, ◌≤◌, true, List, [], ◌∷◌, ◌++◌, length, vec_items, vec_len, sym, refl, ap, ◌∙◌, arith}
 use Rattle.std.proofs.lemmas.List.{length_push, length-set, append-nil}
-use Rattle.logic.specs.declared.records.Node.{Node}
 use Rattle.logic.specs.declared.records.RawNode.{RawNode}
 use Rattle.logic.specs.declared.records.Entry.{Entry}
 use Rattle.logic.specs.declared.records.RawEntry.{RawEntry}
@@ -17,7 +16,9 @@ use Rattle.logic.proofs.Refusing.{node_granted, entry_granted}
 use Rattle.books.specs.declared.journal.Journal.{Journal}
 use Rattle.books.specs.declared.journal_record.Record.{Record}
 use Rattle.books.specs.declared.journal_record.Record.TheVariants as records
-use Rattle.books.specs.Replay.{replay, recorded_marks, struck_count}
+use Rattle.books.specs.declared.marked.MarkedNode.{MarkedNode}
+use Rattle.books.specs.Marks.{marks}
+use Rattle.books.specs.Replay.{replay, recorded_nodes, struck_count}
 use Rattle.books.proofs.Changes.{marks_more}
 use Rattle.books.proofs.Replays.{replay-push, marks_push, struck_count_le, struck_count-push, struck_count-set}
 
@@ -28,7 +29,7 @@ pub record Kept (rs : List Record) (len nodes entries : ℕ) : Type 0 where
   pub counted : len ≡ nodes + entries + struck_count (replay empty rs).lines
   pub few_nodes : nodes ≤ 512
   pub few_entries : entries ≤ 256
-  pub marked : recorded_marks rs ≡ plain_marks (replay empty rs).nodes
+  pub marked : marks (recorded_nodes rs) ≡ plain_marks (replay empty rs).nodes
   pub lawful : Lawful (replay empty rs)
 
 -- it holds of every journal
@@ -49,7 +50,7 @@ pub room : {rs : List Record} {len nodes entries : ℕ} → Kept rs len nodes en
 room {rs} k = omega (arith, struck_count_le (replay empty rs).lines, k.counted, k.counted_entries, k.few_nodes, k.few_entries)
 
 -- it holds where the records mean a lawful book of these counts and marks
-kept_by : (rs : List Record) (len nodes entries : ℕ) (bk : Book) → replay empty rs ≡ bk → Lawful bk → nodes ≡ length bk.nodes → entries ≡ length bk.lines → len ≡ nodes + entries + struck_count bk.lines → recorded_marks rs ≡ plain_marks bk.nodes → Kept rs len nodes entries
+kept_by : (rs : List Record) (len nodes entries : ℕ) (bk : Book) → replay empty rs ≡ bk → Lawful bk → nodes ≡ length bk.nodes → entries ≡ length bk.lines → len ≡ nodes + entries + struck_count bk.lines → marks (recorded_nodes rs) ≡ plain_marks bk.nodes → Kept rs len nodes entries
 kept_by rs len nodes entries bk is lawful ns ls all marks =
     record {
       counted_nodes = rw is ns;
@@ -63,17 +64,17 @@ kept_by rs len nodes entries bk is lawful ns ls all marks =
 
 -- no records yet
 pub kept_new : (rs : List Record) (len : ℕ) → rs ≡ [] → len ≡ 0 → Kept rs len 0 0
-kept_new rs len none zero = kept_by rs len 0 0 empty (ap (replay empty) none) lawful_empty refl refl zero (ap recorded_marks none)
+kept_new rs len none zero = kept_by rs len 0 0 empty (ap (replay empty) none) lawful_empty refl refl zero (ap (λ xs. marks (recorded_nodes xs)) none)
 
 -- it holds after one record more
 module _ {rs : List Record} {len nodes entries : ℕ} (k : Kept rs len nodes entries) (rs' : List Record) (len' : ℕ) (longer : len' ≡ len + 1) where
   -- of a node that was granted, with its mark
-  pub kept_node : (raw : RawNode) (n : Node) (m : Bool) → node_refusal (replay empty rs) raw ≡ 0 → n ≡ node_of raw → m ≡ plain (read (concepts (replay empty rs).nodes) n) → rs' ≡ rs ++ records.Node n m ∷ [] → Kept rs' len' (nodes + 1) entries
-  kept_node raw n m granted is mark e =
+  pub kept_node : (raw : RawNode) (m : MarkedNode) → node_refusal (replay empty rs) raw ≡ 0 → m.node ≡ node_of raw → m.plain ≡ plain (read (concepts (replay empty rs).nodes) m.node) → rs' ≡ rs ++ records.Node m ∷ [] → Kept rs' len' (nodes + 1) entries
+  kept_node raw m granted is mark e =
       let bk = replay empty rs in
-      let r = records.Node n m in
+      let r = records.Node m in
       let counted : nodes + 1 ≡ length (bk.nodes ++ node_of raw ∷ []) = omega (arith, length_push bk.nodes (node_of raw), k.counted_nodes) in
-      let marked = marks_more bk.nodes _ (recorded_marks rs) _ n m k.marked (ap (λ x. bk.nodes ++ x ∷ []) (sym is)) (ap recorded_marks e ∙ marks_push rs r) mark in
+      let marked = marks_more bk.nodes _ (marks (recorded_nodes rs)) _ m.node m.plain k.marked (ap (λ x. bk.nodes ++ x ∷ []) (sym is)) (ap (λ xs. marks (recorded_nodes xs)) e ∙ marks_push rs r) mark in
       kept_by rs' len' (nodes + 1) entries (with_node bk (node_of raw)) (replay-push rs rs' r e ∙ ap (with_node bk) is) ((node_granted bk raw granted).1 k.lawful) counted k.counted_entries (omega (arith, k.counted)) marked
 
   -- of an entry that was granted
@@ -83,7 +84,7 @@ module _ {rs : List Record} {len nodes entries : ℕ} (k : Kept rs len nodes ent
       let r = records.Entry x in
       let l : Line = record { entry = entry_of raw; live = true } in
       let counted : entries + 1 ≡ length (bk.lines ++ l ∷ []) = omega (arith, length_push bk.lines l, k.counted_entries) in
-      let marked = ap recorded_marks e ∙ marks_push rs r ∙ append-nil (recorded_marks rs) ∙ k.marked in
+      let marked = ap (λ xs. marks (recorded_nodes xs)) e ∙ marks_push rs r ∙ append-nil (marks (recorded_nodes rs)) ∙ k.marked in
       kept_by rs' len' nodes (entries + 1) (with_entry bk (entry_of raw)) (replay-push rs rs' r e ∙ ap (with_entry bk) is) ((entry_granted bk raw granted).1 k.lawful) k.counted_nodes counted (omega (arith, k.counted, struck_count-push bk.lines l refl)) marked
 
   -- of a strike of a live entry
@@ -91,5 +92,5 @@ module _ {rs : List Record} {len nodes entries : ℕ} (k : Kept rs len nodes ent
   kept_strike i live e =
       let bk = replay empty rs in
       let r = records.Strike i in
-      let marked = ap recorded_marks e ∙ marks_push rs r ∙ append-nil (recorded_marks rs) ∙ k.marked in
+      let marked = ap (λ xs. marks (recorded_nodes xs)) e ∙ marks_push rs r ∙ append-nil (marks (recorded_nodes rs)) ∙ k.marked in
       kept_by rs' len' nodes entries (with_strike bk i) (replay-push rs rs' r e) (lawful_with_strike bk k.lawful i) k.counted_nodes (k.counted_entries ∙ sym (length-set bk.lines i (struck (line_at bk i)))) (omega (arith, k.counted, struck_count-set bk.lines i live)) marked

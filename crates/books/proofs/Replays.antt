@@ -1,14 +1,14 @@
 -- The records of a journal: the book with one record more, the nodes and the marks of a list of records,
 -- lines that are struck. Assumes nothing.
-use Rattle.std.proofs.Common.{◌≡◌, ℕ, zero, suc, ◌+◌, ◌-◌, ◌<◌, ◌≤◌, Bool, true, cond, eqb, List, [], ◌∷◌, ◌++◌, length, get_or, take, drop, set, sym, refl, ap, ◌∙◌, inl, inr, arith}
-use Rattle.std.proofs.lemmas.List.{append-nil, append_assoc, take_more, drop_more, get_or-set_other}
+use Rattle.std.proofs.Common.{◌≡◌, ℕ, zero, suc, ◌+◌, ◌<◌, ◌≤◌, true, cond, eqb, List, [], ◌∷◌, ◌++◌, length, get_or, take, set, sym, refl, ap, ◌∙◌, inl, inr, arith}
+use Rattle.std.proofs.lemmas.List.{append-nil, append_assoc, take_more, get_or-set_other}
 use Rattle.std.proofs.lemmas.Bool.{false≢true, cases_Bool, eqb-true, eqb-false, cond_both}
-use Rattle.logic.specs.declared.records.Node.{Node}
 use Rattle.logic.specs.declared.records.Line.{Line}
 use Rattle.logic.specs.Books.{Book, empty, no_line, struck, with_node, with_entry, with_strike}
 use Rattle.books.specs.declared.journal_record.Record.{Record}
 use Rattle.books.specs.declared.journal_record.Record.TheVariants as records
-use Rattle.books.specs.Replay.{recorded, replay, recorded_nodes, recorded_marks, struck_count}
+use Rattle.books.specs.Marks.{bare, marks}
+use Rattle.books.specs.Replay.{recorded, replay, recorded_nodes, struck_count}
 
 replay_on : (bk : Book) (rs : List Record) (r : Record) → replay bk (rs ++ r ∷ []) ≡ recorded (replay bk rs) r
 replay_on bk [] r = refl
@@ -22,45 +22,22 @@ replay-push rs rs' r e = ap (replay empty) e ∙ replay_on empty rs r
 pub replay_more : (rs : List Record) (k : ℕ) (d : Record) → k < length rs → replay empty (take (k + 1) rs) ≡ recorded (replay empty (take k rs)) (get_or rs k d)
 replay_more rs k d h = replay-push (take k rs) (take (k + 1) rs) (get_or rs k d) (take_more rs k d h)
 
-nodes_on : (bk : Book) (rs : List Record) → bk.nodes ++ recorded_nodes rs ≡ (replay bk rs).nodes
+nodes_on : (bk : Book) (rs : List Record) → bk.nodes ++ bare (recorded_nodes rs) ≡ (replay bk rs).nodes
 nodes_on bk [] = append-nil bk.nodes
-nodes_on bk (records.Node n m ∷ rs) = sym (append_assoc bk.nodes (n ∷ []) (recorded_nodes rs)) ∙ nodes_on (with_node bk n) rs
+nodes_on bk (records.Node m ∷ rs) = sym (append_assoc bk.nodes (m.node ∷ []) (bare (recorded_nodes rs))) ∙ nodes_on (with_node bk m.node) rs
 nodes_on bk (records.Entry e ∷ rs) = nodes_on (with_entry bk e) rs
 nodes_on bk (records.Strike i ∷ rs) = nodes_on (with_strike bk i) rs
 
 -- the nodes of the book are those of the records
-pub replay_nodes : (rs : List Record) → recorded_nodes rs ≡ (replay empty rs).nodes
+pub replay_nodes : (rs : List Record) → bare (recorded_nodes rs) ≡ (replay empty rs).nodes
 replay_nodes rs = nodes_on empty rs
 
 -- the marks with one record more
-pub marks_push : (rs : List Record) (r : Record) → recorded_marks (rs ++ r ∷ []) ≡ recorded_marks rs ++ recorded_marks (r ∷ [])
+pub marks_push : (rs : List Record) (r : Record) → marks (recorded_nodes (rs ++ r ∷ [])) ≡ marks (recorded_nodes rs) ++ marks (recorded_nodes (r ∷ []))
 marks_push [] r = refl
-marks_push (records.Node n m ∷ rs) r = ap (λ ms. m ∷ ms) (marks_push rs r)
+marks_push (records.Node m ∷ rs) r = ap (λ ms. m.plain ∷ ms) (marks_push rs r)
 marks_push (records.Entry e ∷ rs) r = marks_push rs r
 marks_push (records.Strike i ∷ rs) r = marks_push rs r
-
--- a node at the front of the records that are left
-pub left_node : (rs : List Record) (k : ℕ) (d : Record) (n : Node) (m : Bool) → k < length rs → get_or rs k d ≡ records.Node n m → (recorded_nodes (drop k rs) ≡ n ∷ recorded_nodes (drop (k + 1) rs)) × (recorded_marks (drop k rs) ≡ m ∷ recorded_marks (drop (k + 1) rs))
-left_node rs k d n m h is =
-    let front : drop k rs ≡ records.Node n m ∷ drop (k + 1) rs = drop_more rs k d h ∙ ap (λ r. r ∷ drop (k + 1) rs) is in
-    (ap recorded_nodes front, ap recorded_marks front)
-
-no_node : (r : Record) (rs : List Record) → ((n : Node) (m : Bool) → r ≡ records.Node n m → ⊥) → (recorded_nodes (r ∷ rs) ≡ recorded_nodes rs) × (recorded_marks (r ∷ rs) ≡ recorded_marks rs)
-no_node (records.Node n m) rs h = absurd (h n m refl)
-no_node (records.Entry e) rs h = (refl, refl)
-no_node (records.Strike i) rs h = (refl, refl)
-
--- another record there
-pub left_other : (rs : List Record) (k : ℕ) (d : Record) → k < length rs → ((n : Node) (m : Bool) → get_or rs k d ≡ records.Node n m → ⊥) → (recorded_nodes (drop k rs) ≡ recorded_nodes (drop (k + 1) rs)) × (recorded_marks (drop k rs) ≡ recorded_marks (drop (k + 1) rs))
-left_other rs k d h not =
-    let front = drop_more rs k d h in
-    let p = no_node (get_or rs k d) (drop (k + 1) rs) not in
-    (ap recorded_nodes front ∙ p.0, ap recorded_marks front ∙ p.1)
-
--- an item behind the first
-pub get_or-tail : {X : Type 0} (x : X) (xs : List X) (i : ℕ) (d : X) → (i ≡ 0 → ⊥) → get_or (x ∷ xs) i d ≡ get_or xs (i - 1) d
-get_or-tail x xs zero d h = absurd (h refl)
-get_or-tail x xs (suc i) d h = let e : i ≡ suc i - 1 = omega arith in ap (λ k. get_or xs k d) e
 
 -- a push changes only what stands right behind the end
 pub get_or-push_other : {X : Type 0} (xs : List X) (x d : X) (i : ℕ) → (length xs ≡ i → ⊥) → get_or (xs ++ x ∷ []) i d ≡ get_or xs i d

@@ -1,54 +1,71 @@
 -- What the calls of an editable book answer, and what the book holds after them. In each relation bk is
 -- the book before the call and bk' the book after it.
--- NodeJudged, EntryJudged: what the tests of an offered record say.
--- NodeAnswer, EnterAnswer, StrikeAnswer: what a call answers and does.
+-- Offer: what can be offered to a book. nodes, entries: the two things that can.
+-- Tells: what a book says of two of its nodes. Judged: what the tests of an offered record say.
+-- OfferAnswer, StrikeAnswer: what a call answers and does.
 -- Assumes nothing.
-use Rattle.std.specs.Prelude.{◌≡◌, ℕ, ◌<◌, ◌≤◌, true, false, length, Ok, Err, Result}
-use Rattle.logic.specs.declared.records.Node.{Node}
+use Rattle.std.specs.Prelude.{◌≡◌, ℕ, ◌<◌, ◌≤◌, Bool, true, false, List, length, Ok, Err, Result}
 use Rattle.logic.specs.declared.records.RawNode.{RawNode}
-use Rattle.logic.specs.declared.records.Entry.{Entry}
 use Rattle.logic.specs.declared.records.RawEntry.{RawEntry}
+use Rattle.logic.specs.Concepts.{Concept, of, plain}
 use Rattle.logic.specs.Written.{node_of, entry_of}
 use Rattle.logic.specs.Books.{Book, line_at, with_node, with_entry, with_strike}
-use Rattle.logic.specs.Refusals.{node_refusal, entry_refusal}
-use Rattle.books.specs.declared.faults.NodeFault.{NodeFault}
-use Rattle.books.specs.declared.faults.EnterFault.{EnterFault}
+use Rattle.logic.specs.Refusals.{first_unfit, node_refusal, entry_refusal}
+use Rattle.books.specs.declared.offers.Sides.{Sides}
+use Rattle.books.specs.declared.faults.Unfit.{Unfit}
+use Rattle.books.specs.declared.faults.OfferFault.{OfferFault}
 use Rattle.books.specs.declared.faults.StrikeFault.{StrikeFault}
 use Rattle.books.specs.declared.faults.StrikeFault.TheVariants.{NeverEntered, Struck}
-use Rattle.books.specs.Faults.{node_fault_number, node_fault_place, enter_fault_number, enter_fault_place, strike_fault_number, strike_fault_place}
+use Rattle.books.specs.Faults.{unfit_number, offer_fault_number, offer_fault_place, strike_fault_number, strike_fault_place}
 
--- the fault says by its number which test failed first, and by its place how many nodes there are
-abbrev pub NodeRefused : Book → RawNode → NodeFault → Type 0
-NodeRefused bk raw f = (node_refusal bk raw ≡ node_fault_number f) × (node_fault_place f ≡ length bk.nodes)
+-- of the concepts a and b of a list, whether they are plain
+abbrev pub Tells : List Concept → ℕ → ℕ → Sides → Type 0
+Tells cs a b s = (plain (of cs a) ≡ s.plain_a) × (plain (of cs b) ≡ s.plain_b)
 
-abbrev pub EntryRefused : Book → RawEntry → EnterFault → Type 0
-EntryRefused bk raw f = (entry_refusal bk raw ≡ enter_fault_number f) × (enter_fault_place f ≡ length bk.lines)
+-- the first of four tests that fails
+abbrev pub FirstUnfit : Bool → Bool → Bool → Bool → Result (Unit {0}) Unfit → Type 0
+FirstUnfit known in_range there placed (Ok u) = first_unfit known in_range there placed ≡ 0
+FirstUnfit known in_range there placed (Err u) = first_unfit known in_range there placed ≡ unfit_number u
 
--- the node that is offered, or why it is refused
-abbrev pub NodeJudged : Book → RawNode → Result Node NodeFault → Type 0
-NodeJudged bk raw (Ok n) = (node_refusal bk raw ≡ 0) × (n ≡ node_of raw)
-NodeJudged bk raw (Err f) = NodeRefused bk raw f
+-- the record that is offered, or why it does not fit: `unfit` is 0 where it does, and x is what was offered
+abbrev pub Judged : {T : Type 0} → ℕ → T → Result T Unfit → Type 0
+Judged unfit x (Ok y) = (unfit ≡ 0) × (y ≡ x)
+Judged unfit x (Err u) = unfit ≡ unfit_number u
 
-abbrev pub EntryJudged : Book → RawEntry → Result Entry EnterFault → Type 0
-EntryJudged bk raw (Ok e) = (entry_refusal bk raw ≡ 0) × (e ≡ entry_of raw)
-EntryJudged bk raw (Err f) = EntryRefused bk raw f
+-- How records of one sort are offered: `refusal` is 0 where a book grants a record, `count` is how many of
+-- the sort the book has, and `more` is the book with the record.
+pub record Offer (R : Type 0) : Type 0 where
+  pub refusal : Book → R → ℕ
+  pub count : Book → ℕ
+  pub more : Book → R → Book
 
--- granted: the node is appended, and its number is answered; refused: nothing changed
-abbrev pub NodeAnswer : Book → Book → RawNode → Result ℕ NodeFault → Type 0
-NodeAnswer bk bk' raw (Ok i) = (node_refusal bk raw ≡ 0) × (i ≡ length bk.nodes) × (bk' ≡ with_node bk (node_of raw))
-NodeAnswer bk bk' raw (Err f) = NodeRefused bk raw f × (bk' ≡ bk)
+-- nodes
+abbrev pub nodes : Offer RawNode
+nodes = record { refusal = node_refusal; count = λ bk. length bk.nodes; more = λ bk raw. with_node bk (node_of raw) }
 
--- granted: the entry is appended, live, and its number is answered; refused: nothing changed
-abbrev pub EnterAnswer : Book → Book → RawEntry → Result ℕ EnterFault → Type 0
-EnterAnswer bk bk' raw (Ok i) = (entry_refusal bk raw ≡ 0) × (i ≡ length bk.lines) × (bk' ≡ with_entry bk (entry_of raw))
-EnterAnswer bk bk' raw (Err f) = EntryRefused bk raw f × (bk' ≡ bk)
+-- entries, which are live
+abbrev pub entries : Offer RawEntry
+entries = record { refusal = entry_refusal; count = λ bk. length bk.lines; more = λ bk raw. with_entry bk (entry_of raw) }
+
+-- the fault says by its number which test failed first, and by its place how many records there are
+abbrev pub Refused : {R : Type 0} → Offer R → Book → R → OfferFault R → Type 0
+Refused o bk raw f = (o.refusal bk raw ≡ offer_fault_number f) × (offer_fault_place f ≡ o.count bk)
+
+-- granted: the record is appended, and its number is answered; refused: nothing changed
+abbrev pub OfferAnswer : {R : Type 0} → Offer R → Book → Book → R → Result ℕ (OfferFault R) → Type 0
+OfferAnswer o bk bk' raw (Ok i) = (o.refusal bk raw ≡ 0) × (i ≡ o.count bk) × (bk' ≡ o.more bk raw)
+OfferAnswer o bk bk' raw (Err f) = Refused o bk raw f × (bk' ≡ bk)
 
 -- which entries cannot be struck
 abbrev pub NotToStrike : Book → ℕ → StrikeFault → Type 0
 NotToStrike bk i (NeverEntered p) = length bk.lines ≤ i
 NotToStrike bk i (Struck p) = (i < length bk.lines) × ((line_at bk i).live ≡ false)
 
--- granted: a live entry is struck; refused, by number 6 and the entry's own number: nothing changed
+-- why an entry is not struck: number 6, and its own number
+abbrev pub StrikeRefused : Book → ℕ → StrikeFault → Type 0
+StrikeRefused bk i f = NotToStrike bk i f × (strike_fault_number f ≡ 6) × (strike_fault_place f ≡ i)
+
+-- granted: a live entry is struck; refused: nothing changed
 abbrev pub StrikeAnswer : Book → Book → ℕ → Result (Unit {0}) StrikeFault → Type 0
 StrikeAnswer bk bk' i (Ok u) = ((line_at bk i).live ≡ true) × (bk' ≡ with_strike bk i)
-StrikeAnswer bk bk' i (Err f) = NotToStrike bk i f × (strike_fault_number f ≡ 6) × (strike_fault_place f ≡ i) × (bk' ≡ bk)
+StrikeAnswer bk bk' i (Err f) = StrikeRefused bk i f × (bk' ≡ bk)

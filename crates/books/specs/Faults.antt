@@ -1,42 +1,31 @@
 -- The number and the place of each case of each fault of an editable book.
 -- Assumes nothing.
 use Rattle.std.specs.Prelude.{ℕ}
-use Rattle.books.specs.declared.faults.NodeFault.{NodeFault}
-use Rattle.books.specs.declared.faults.NodeFault.TheVariants as nodes
-use Rattle.books.specs.declared.faults.EnterFault.{EnterFault}
-use Rattle.books.specs.declared.faults.EnterFault.TheVariants as enters
+use Rattle.books.specs.declared.faults.Unfit.{Unfit}
+use Rattle.books.specs.declared.faults.Unfit.TheVariants as unfit
+use Rattle.books.specs.declared.faults.Reason.{Reason}
+use Rattle.books.specs.declared.faults.Reason.TheVariants as reasons
+use Rattle.books.specs.declared.faults.OfferFault.{OfferFault}
 use Rattle.books.specs.declared.faults.StrikeFault.{StrikeFault}
 use Rattle.books.specs.declared.faults.StrikeFault.TheVariants as strikes
 
-abbrev pub node_fault_number : NodeFault → ℕ
-node_fault_number (nodes.Full count) = 1
-node_fault_number (nodes.UnknownKind count) = 2
-node_fault_number (nodes.OutOfRange count) = 3
-node_fault_number (nodes.NoSuchNode count) = 4
-node_fault_number (nodes.TypicalMisplaced count) = 5
+abbrev pub unfit_number : Unfit → ℕ
+unfit_number unfit.UnknownKind = 2
+unfit_number unfit.OutOfRange = 3
+unfit_number unfit.NoSuchNode = 4
+unfit_number unfit.TypicalMisplaced = 5
 
--- the count of nodes
-abbrev pub node_fault_place : NodeFault → ℕ
-node_fault_place (nodes.Full count) = count
-node_fault_place (nodes.UnknownKind count) = count
-node_fault_place (nodes.OutOfRange count) = count
-node_fault_place (nodes.NoSuchNode count) = count
-node_fault_place (nodes.TypicalMisplaced count) = count
+abbrev pub reason_number : Reason → ℕ
+reason_number reasons.Full = 1
+reason_number (reasons.Unfit u) = unfit_number u
 
-abbrev pub enter_fault_number : EnterFault → ℕ
-enter_fault_number (enters.Full count) = 1
-enter_fault_number (enters.UnknownKind count) = 2
-enter_fault_number (enters.OutOfRange count) = 3
-enter_fault_number (enters.NoSuchNode count) = 4
-enter_fault_number (enters.TypicalMisplaced count) = 5
+-- of a node and of an entry that was offered
+abbrev pub offer_fault_number : {R : Type 0} → OfferFault R → ℕ
+offer_fault_number f = reason_number f.reason
 
--- the count of entries
-abbrev pub enter_fault_place : EnterFault → ℕ
-enter_fault_place (enters.Full count) = count
-enter_fault_place (enters.UnknownKind count) = count
-enter_fault_place (enters.OutOfRange count) = count
-enter_fault_place (enters.NoSuchNode count) = count
-enter_fault_place (enters.TypicalMisplaced count) = count
+-- the count of nodes, or that of entries
+abbrev pub offer_fault_place : {R : Type 0} → OfferFault R → ℕ
+offer_fault_place f = f.count
 
 -- an entry that was never entered and one that is struck already have one number
 abbrev pub strike_fault_number : StrikeFault → ℕ

@@ -2,6 +2,8 @@
 pub mod Faults
 -- what the calls of an editable book answer
 pub mod Answers
+-- nodes with their marks
+pub mod Marks
 -- lists of records
 pub mod Writing
 -- what the records of a journal mean

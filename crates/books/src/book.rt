@@ -3,7 +3,7 @@ ghost use Rattle.std.specs.Prelude.{◌≡◌, length, is_ok, IfOk, Decides};
 ghost use Rattle.logic.specs.Books.{Book, empty, node_at, line_at};
 ghost use Rattle.logic.specs.Lawful.{Lawful};
 ghost use Rattle.logic.specs.Refusals.{NodeFits, EntryFits};
-ghost use Rattle.books.specs.Answers.{NodeAnswer, EnterAnswer, StrikeAnswer};
+ghost use Rattle.books.specs.Answers.{nodes, entries, OfferAnswer, StrikeAnswer};
 
 use crate::faults::{EnterFault, NodeFault, StrikeFault};
 use logic::records::{Line, Node, RawEntry, RawNode};
@@ -32,7 +32,8 @@ pub trait ReadableBook {
         ensures { result ≡ line_at (meaning self.now) i };
 }
 
-// A book that also takes nodes, entries and strikes.
+// A book that also takes nodes, entries and strikes. Nodes and entries have a call each, which keep other
+// records and another count; `write::Offered` is one call for both.
 pub trait EditableBook: ReadableBook + Sized + Drop {
     // An empty book. Only this call can fail for want of memory.
     fn new(heap: Global) -> Result<Self, AllocError>
@@ -40,12 +41,12 @@ pub trait EditableBook: ReadableBook + Sized + Drop {
 
     // Appends a node and answers its number; granted exactly when the book stays lawful.
     fn node(&mut self, raw: RawNode) -> Result<u16, NodeFault>
-        ensures answer { NodeAnswer (Self.ReadableBook.meaning self.old) (Self.ReadableBook.meaning self.new) raw result }
+        ensures answer { OfferAnswer nodes (Self.ReadableBook.meaning self.old) (Self.ReadableBook.meaning self.new) raw result }
         ensures exact { Decides (is_ok result) (NodeFits (Self.ReadableBook.meaning self.old) raw) };
 
     // Appends an entry, live, and answers its number; granted exactly when the book stays lawful.
     fn enter(&mut self, raw: RawEntry) -> Result<u16, EnterFault>
-        ensures answer { EnterAnswer (Self.ReadableBook.meaning self.old) (Self.ReadableBook.meaning self.new) raw result }
+        ensures answer { OfferAnswer entries (Self.ReadableBook.meaning self.old) (Self.ReadableBook.meaning self.new) raw result }
         ensures exact { Decides (is_ok result) (EntryFits (Self.ReadableBook.meaning self.old) raw) };
 
     // Clears the live mark of entry i.

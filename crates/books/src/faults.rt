@@ -1,26 +1,39 @@
-// Why a call of an editable book is refused. Each case holds the place that is reported with it: the
-// count of nodes, the count of entries, or the number of the entry to strike.
-ghost use Rattle.books.specs.Faults.{node_fault_number, node_fault_place, enter_fault_number, enter_fault_place, strike_fault_number, strike_fault_place};
+// Why a call of an editable book is refused. The place that is reported is the count of nodes, the count
+// of entries, or the number of the entry to strike.
+ghost use Rattle.std.specs.Prelude.{◌≡◌};
+ghost use Rattle.books.specs.Faults.{unfit_number, offer_fault_number, offer_fault_place, strike_fault_number, strike_fault_place};
 
+use logic::records::{RawEntry, RawNode};
 use logic::refusal::Refusal;
+use std::marker::PhantomData;
 
+// Why a record does not fit a book that has room for it.
 #[derive(Clone, Copy)]
-pub enum NodeFault {
-    Full(u16),
-    UnknownKind(u16),
-    OutOfRange(u16),
-    NoSuchNode(u16),
-    TypicalMisplaced(u16),
+pub enum Unfit {
+    UnknownKind,
+    OutOfRange,
+    NoSuchNode,
+    TypicalMisplaced,
 }
 
+// Why an offered record is refused.
 #[derive(Clone, Copy)]
-pub enum EnterFault {
-    Full(u16),
-    UnknownKind(u16),
-    OutOfRange(u16),
-    NoSuchNode(u16),
-    TypicalMisplaced(u16),
+pub enum Reason {
+    Full,
+    Unfit(Unfit),
 }
+
+// Why an offer of an R, a node or an entry, is refused, with the count of those in the book.
+#[derive(Clone, Copy)]
+pub struct OfferFault<R> {
+    pub reason: Reason,
+    pub count: u16,
+    offered: PhantomData<R>,
+}
+
+pub type NodeFault = OfferFault<RawNode>;
+
+pub type EnterFault = OfferFault<RawEntry>;
 
 #[derive(Clone, Copy)]
 pub enum StrikeFault {
@@ -28,55 +41,47 @@ pub enum StrikeFault {
     Struck(u16),
 }
 
-impl Refusal for NodeFault {
-    ghost numbered = { node_fault_number };
+// The number of the refusal.
+impl From<Unfit> for u8 {
+    ghost from_gives = { λ unfit n. n ≡ unfit_number unfit };
 
-    ghost placed = { node_fault_place };
-
-    fn number(&self) -> u8 {
-        match self {
-            NodeFault::Full(_) => 1,
-            NodeFault::UnknownKind(_) => 2,
-            NodeFault::OutOfRange(_) => 3,
-            NodeFault::NoSuchNode(_) => 4,
-            NodeFault::TypicalMisplaced(_) => 5,
-        }
-    }
-
-    fn place(&self) -> usize {
-        match *self {
-            NodeFault::Full(count)
-            | NodeFault::UnknownKind(count)
-            | NodeFault::OutOfRange(count)
-            | NodeFault::NoSuchNode(count)
-            | NodeFault::TypicalMisplaced(count) => count as usize,
+    fn from(unfit: Unfit) -> u8 {
+        match unfit {
+            Unfit::UnknownKind => 2,
+            Unfit::OutOfRange => 3,
+            Unfit::NoSuchNode => 4,
+            Unfit::TypicalMisplaced => 5,
         }
     }
 }
 
-impl Refusal for EnterFault {
-    ghost numbered = { enter_fault_number };
+impl<R> OfferFault<R> {
+    pub(crate) fn new(reason: Reason, count: u16) -> OfferFault<R>
+        ensures reason { result.reason ≡ reason }
+        ensures count { result.count ≡ count }
+    {
+        OfferFault {
+            reason,
+            count,
+            offered: PhantomData,
+        }
+    }
+}
 
-    ghost placed = { enter_fault_place };
+impl<R> Refusal for OfferFault<R> {
+    ghost numbered = { offer_fault_number };
+
+    ghost placed = { offer_fault_place };
 
     fn number(&self) -> u8 {
-        match self {
-            EnterFault::Full(_) => 1,
-            EnterFault::UnknownKind(_) => 2,
-            EnterFault::OutOfRange(_) => 3,
-            EnterFault::NoSuchNode(_) => 4,
-            EnterFault::TypicalMisplaced(_) => 5,
+        match self.reason {
+            Reason::Full => 1,
+            Reason::Unfit(unfit) => u8::from(unfit),
         }
     }
 
     fn place(&self) -> usize {
-        match *self {
-            EnterFault::Full(count)
-            | EnterFault::UnknownKind(count)
-            | EnterFault::OutOfRange(count)
-            | EnterFault::NoSuchNode(count)
-            | EnterFault::TypicalMisplaced(count) => count as usize,
-        }
+        self.count as usize
     }
 }
 

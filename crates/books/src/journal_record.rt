@@ -1,10 +1,26 @@
 // What a journal writes down.
-use logic::records::{Entry, Node};
+ghost use Rattle.std.specs.Prelude.{◌≡◌};
+ghost use Rattle.books.specs.Replay.{node_in};
 
-// A node and whether it is plain, an entry, or the number of an entry that is struck.
+use crate::marked::MarkedNode;
+use logic::records::Entry;
+
+// A node with its mark, an entry, or the number of an entry that is struck.
 #[derive(Clone, Copy)]
 pub(crate) enum Record {
-    Node(Node, bool),
+    Node(MarkedNode),
     Entry(Entry),
     Strike(u16),
+}
+
+impl Record {
+    // The node, if it is a record of one.
+    pub(crate) fn node(&self) -> Option<MarkedNode>
+        ensures { result ≡ node_in self.now }
+    {
+        match *self {
+            Record::Node(node) => Some(node),
+            Record::Entry(_) | Record::Strike(_) => None,
+        }
+    }
 }

@@ -4,6 +4,12 @@ ghost use Rattle.logic.specs.Books.{no_line, struck};
 
 use logic::records::{Entry, Line};
 
+// What stands past the last line.
+pub(crate) const NO_LINE: Line = Line {
+    entry: Entry::Absent,
+    live: false,
+};
+
 // An entry that was just taken.
 pub(crate) fn taken(entry: Entry) -> Line
     ensures { result ≡ record { entry = entry; live = true } }
@@ -18,6 +24,5 @@ pub(crate) fn strike_line(lines: &mut Vec<Line>, i: u16)
     ensures len { vec_len lines.new ≡ vec_len lines.old }
     ensures capacity { vec_capacity lines.new ≡ vec_capacity lines.old }
 {
-    let entry = lines[i as usize].entry;
-    lines[i as usize] = Line { entry, live: false };
+    lines[i as usize].live = false;
 }

@@ -1,13 +1,31 @@
 // Books that know of each node whether it is plain, and what they say to an offered record.
 ghost use Rattle.std.specs.Prelude.{◌≡◌};
-ghost use Rattle.logic.specs.Concepts.{plain, is_typical};
+ghost use Rattle.logic.specs.Concepts.{concepts, plain, is_typical};
 ghost use Rattle.logic.specs.Books.{concept};
-ghost use Rattle.books.specs.Answers.{NodeJudged, EntryJudged};
+ghost use Rattle.books.specs.Answers.{Tells};
+ghost use Rattle.books.specs.Marks.{NodeOffered, EntryOffered, MayStrike};
 
 use crate::book::ReadableBook;
-use crate::faults::{EnterFault, NodeFault};
-use crate::offers::{Sides, judge_entry, judge_node, typical_node};
+use crate::faults::{EnterFault, NodeFault, OfferFault, Reason, StrikeFault};
+use crate::offers::{Sides, judge_entry, judge_node, plain_node, typical_node};
 use logic::records::{Entry, Node, RawEntry, RawNode};
+
+const NODES: u16 = 512;
+
+const ENTRIES: u16 = 256;
+
+// A node and whether it is plain.
+#[derive(Clone, Copy)]
+pub(crate) struct MarkedNode {
+    pub(crate) node: Node,
+    pub(crate) plain: bool,
+}
+
+// What stands past the last node.
+pub(crate) const NO_NODE: MarkedNode = MarkedNode {
+    node: Node::Absent,
+    plain: true,
+};
 
 pub(crate) trait MarkedBook: ReadableBook {
     // Whether no typicality occurs in node i; past the end none does.
@@ -15,30 +33,63 @@ pub(crate) trait MarkedBook: ReadableBook {
         ensures { result ≡ plain (concept (Self.ReadableBook.meaning self.now) i) };
 }
 
+// Whether the nodes a and b are plain.
+fn sides<B: MarkedBook>(book: &B, a: u16, b: u16) -> Sides
+    ensures { Tells (concepts (B.ReadableBook.meaning book.now).nodes) a b result }
+{
+    Sides {
+        plain_a: book.plain_at(a),
+        plain_b: book.plain_at(b),
+    }
+}
+
 // Whether node i is typicality of something.
-fn typical_at<B: MarkedBook>(book: &B, i: u16) -> bool
-    ensures { result ≡ is_typical (concept (B.ReadableBook.meaning book.now) i) }
+fn typical_at<B: ReadableBook>(book: &B, i: u16) -> bool
+    ensures { result ≡ is_typical (concept (B.meaning book.now) i) }
 {
     typical_node(book.node_at(i))
 }
 
-// The offered node, or why the book refuses it.
-pub(crate) fn offered_node<B: MarkedBook>(book: &B, raw: RawNode) -> Result<Node, NodeFault>
-    ensures { NodeJudged (B.ReadableBook.meaning book.now) raw result }
+// The offered node with its mark, or why the book refuses it.
+pub(crate) fn offered_node<B: MarkedBook>(book: &B, raw: RawNode) -> Result<MarkedNode, NodeFault>
+    ensures { NodeOffered (B.ReadableBook.meaning book.now) raw result }
 {
-    let plain_a = book.plain_at(raw.a);
-    let plain_b = book.plain_at(raw.b);
-    judge_node(book.node_count(), plain_a, plain_b, raw)
+    let count = book.node_count();
+    if count >= NODES {
+        return Err(OfferFault::new(Reason::Full, count));
+    }
+    let sides = sides(book, raw.a, raw.b);
+    let node = judge_node(count, sides, raw).map_err(|unfit| OfferFault::new(
+        Reason::Unfit(unfit),
+        count,
+    ))?;
+    let plain = plain_node(node, sides);
+    Ok(MarkedNode { node, plain })
 }
 
 // The offered entry, or why the book refuses it.
 pub(crate) fn offered_entry<B: MarkedBook>(book: &B, raw: RawEntry) -> Result<Entry, EnterFault>
-    ensures { EntryJudged (B.ReadableBook.meaning book.now) raw result }
+    ensures { EntryOffered (B.ReadableBook.meaning book.now) raw result }
 {
-    let sides = Sides {
-        typical_a: typical_at(book, raw.a),
-        plain_a: book.plain_at(raw.a),
-        plain_b: book.plain_at(raw.b),
-    };
-    judge_entry(book.entry_count(), book.node_count(), sides, raw)
+    let count = book.entry_count();
+    if count >= ENTRIES {
+        return Err(OfferFault::new(Reason::Full, count));
+    }
+    let sides = sides(book, raw.a, raw.b);
+    judge_entry(book.node_count(), typical_at(book, raw.a), sides, raw).map_err(
+        |unfit| OfferFault::new(Reason::Unfit(unfit), count),
+    )
+}
+
+// Whether entry i can be struck, or why not.
+pub(crate) fn may_strike<B: ReadableBook>(book: &B, i: u16) -> Result<(), StrikeFault>
+    ensures { MayStrike (B.meaning book.now) i result }
+{
+    if i >= book.entry_count() {
+        return Err(StrikeFault::NeverEntered(i));
+    }
+    if !book.entry_at(i).live {
+        return Err(StrikeFault::Struck(i));
+    }
+    Ok(())
 }

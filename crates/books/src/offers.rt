@@ -1,19 +1,40 @@
 // The tests of a node or an entry that is offered to a book.
 ghost use Rattle.std.specs.Prelude.{◌≡◌, List, length};
-ghost use Rattle.logic.specs.Written.{node_a, node_b, entry_a, entry_b};
-ghost use Rattle.logic.specs.Concepts.{Concept, of, read, plain, is_typical};
+ghost use Rattle.logic.specs.Written.{node_of, node_a, node_b, entry_of, entry_a, entry_b};
+ghost use Rattle.logic.specs.Concepts.{Concept, concepts, of, read, plain, is_typical};
 ghost use Rattle.logic.specs.Books.{Book, concept};
-ghost use Rattle.logic.specs.Lawful.{node_known, node_within_limits, node_operands_below, node_placed, entry_known, entry_within_limits, entry_operands_below, entry_placed};
-ghost use Rattle.logic.specs.Refusals.{node_unused_zero, entry_unused_zero};
-ghost use Rattle.books.specs.Answers.{NodeJudged, EntryJudged};
+ghost use Rattle.logic.specs.Lawful.{node_within_limits, node_operands_below, node_placed, entry_within_limits, entry_operands_below, entry_placed};
+ghost use Rattle.logic.specs.Refusals.{node_unfit, node_unused_zero, entry_unfit, entry_unused_zero};
+ghost use Rattle.books.specs.Answers.{Judged, Tells, FirstUnfit};
 
-use crate::faults::{EnterFault, NodeFault};
+use crate::faults::Unfit;
 use logic::records::{Entry, Node, RawEntry, RawNode};
 
-fn node_known(node: Node) -> bool
-    ensures { result ≡ node_known node }
+// What a book tells of the nodes a and b of an offered record: whether they are plain.
+#[derive(Clone, Copy)]
+pub struct Sides {
+    pub plain_a: bool,
+    pub plain_b: bool,
+}
+
+// The first of four tests that fails, in the order of the refusals, for nodes and entries. The tests themselves
+// are two sets: one function over both would take a trait with a ghost member for each test.
+fn first_unfit(known: bool, in_range: bool, there: bool, placed: bool) -> Result<(), Unfit>
+    ensures { FirstUnfit known in_range there placed result }
 {
-    !matches!(node, Node::Absent)
+    if !known {
+        return Err(Unfit::UnknownKind);
+    }
+    if !in_range {
+        return Err(Unfit::OutOfRange);
+    }
+    if !there {
+        return Err(Unfit::NoSuchNode);
+    }
+    if !placed {
+        return Err(Unfit::TypicalMisplaced);
+    }
+    Ok(())
 }
 
 fn node_within_limits(node: Node) -> bool
@@ -26,10 +47,11 @@ fn node_within_limits(node: Node) -> bool
     }
 }
 
+// By operand: `==` would compare the kinds too, which are not what is tested here.
 fn node_unused_zero(raw: RawNode) -> bool
     ensures { result ≡ node_unused_zero raw }
 {
-    let own = raw.node().raw();
+    let own = RawNode::from(Node::from(raw));
     raw.a == own.a && raw.b == own.b
 }
 
@@ -43,10 +65,11 @@ fn node_operands_below(count: u16, node: Node) -> bool
     }
 }
 
-// Whether typicality is in place in a node, given whether its operands are plain.
-fn node_placed(node: Node, plain_a: bool, plain_b: bool) -> bool
-    ensures { (cs : List Concept) → plain (of cs (node_a node)) ≡ plain_a → plain (of cs (node_b node)) ≡ plain_b → result ≡ node_placed cs node }
+// Whether typicality is in place in a node.
+fn node_placed(node: Node, sides: Sides) -> bool
+    ensures { (cs : List Concept) → Tells cs (node_a node) (node_b node) sides → result ≡ node_placed cs node }
 {
+    let Sides { plain_a, plain_b } = sides;
     match node {
         Node::All(_, _) | Node::Exists(_, _) => plain_b,
         Node::Typical(_) => plain_a,
@@ -54,14 +77,14 @@ fn node_placed(node: Node, plain_a: bool, plain_b: bool) -> bool
     }
 }
 
-// Whether a node is plain, given whether its operands a and b are.
-pub fn plain_node(node: Node, a: bool, b: bool) -> bool
-    ensures { (cs : List Concept) → plain (of cs (node_a node)) ≡ a → plain (of cs (node_b node)) ≡ b → result ≡ plain (read cs node) }
+// Whether a node is plain.
+pub fn plain_node(node: Node, sides: Sides) -> bool
+    ensures { (cs : List Concept) → Tells cs (node_a node) (node_b node) sides → result ≡ plain (read cs node) }
 {
     match node {
-        Node::Not(_) => a,
-        Node::And(_, _) | Node::Or(_, _) => a && b,
-        Node::All(_, _) | Node::Exists(_, _) => b,
+        Node::Not(_) => sides.plain_a,
+        Node::And(_, _) | Node::Or(_, _) => sides.plain_a && sides.plain_b,
+        Node::All(_, _) | Node::Exists(_, _) => sides.plain_b,
         Node::Typical(_) => false,
         Node::Top | Node::Bottom | Node::Name(_) | Node::Absent => true,
     }
@@ -74,34 +97,18 @@ pub fn typical_node(node: Node) -> bool
     matches!(node, Node::Typical(_))
 }
 
-// The node that is offered, or why a book of `count` nodes refuses it. It is to be told whether the
-// concepts of its nodes a and b are plain.
-pub fn judge_node(count: u16, plain_a: bool, plain_b: bool, raw: RawNode) -> Result<Node, NodeFault>
-    ensures { (bk : Book) → length bk.nodes ≡ count → plain (concept bk raw.a) ≡ plain_a → plain (concept bk raw.b) ≡ plain_b → NodeJudged bk raw result }
+// The node that is offered, or why it does not fit a book of `count` nodes.
+pub fn judge_node(count: u16, sides: Sides, raw: RawNode) -> Result<Node, Unfit>
+    ensures { (bk : Book) → length bk.nodes ≡ count → Tells (concepts bk.nodes) raw.a raw.b sides → Judged (node_unfit bk raw) (node_of raw) result }
 {
-    let node = raw.node();
-    if count >= 512 {
-        return Err(NodeFault::Full(count));
-    }
-    if !node_known(node) {
-        return Err(NodeFault::UnknownKind(count));
-    }
-    if !node_within_limits(node) || !node_unused_zero(raw) {
-        return Err(NodeFault::OutOfRange(count));
-    }
-    if !node_operands_below(count, node) {
-        return Err(NodeFault::NoSuchNode(count));
-    }
-    if !node_placed(node, plain_a, plain_b) {
-        return Err(NodeFault::TypicalMisplaced(count));
-    }
+    let node = Node::from(raw);
+    first_unfit(
+        !matches!(node, Node::Absent),
+        node_within_limits(node) && node_unused_zero(raw),
+        node_operands_below(count, node),
+        node_placed(node, sides),
+    )?;
     Ok(node)
-}
-
-fn entry_known(entry: Entry) -> bool
-    ensures { result ≡ entry_known entry }
-{
-    !matches!(entry, Entry::Absent)
 }
 
 fn entry_within_limits(entry: Entry) -> bool
@@ -114,10 +121,11 @@ fn entry_within_limits(entry: Entry) -> bool
     }
 }
 
+// By operand, as above.
 fn entry_unused_zero(raw: RawEntry) -> bool
     ensures { result ≡ entry_unused_zero raw }
 {
-    let own = raw.entry().raw();
+    let own = RawEntry::from(Entry::from(raw));
     raw.a == own.a && raw.b == own.b && raw.c == own.c
 }
 
@@ -131,44 +139,26 @@ fn entry_operands_below(count: u16, entry: Entry) -> bool
     }
 }
 
-// What a book tells of the nodes a and b of an offered entry: whether node a is typicality of
-// something, and whether the nodes are plain.
-#[derive(Clone, Copy)]
-pub struct Sides {
-    pub typical_a: bool,
-    pub plain_a: bool,
-    pub plain_b: bool,
-}
-
-// Whether typicality is in place in an entry.
-fn entry_placed(entry: Entry, sides: Sides) -> bool
-    ensures { (cs : List Concept) → is_typical (of cs (entry_a entry)) ≡ sides.typical_a → plain (of cs (entry_a entry)) ≡ sides.plain_a → plain (of cs (entry_b entry)) ≡ sides.plain_b → result ≡ entry_placed cs entry }
+// Whether typicality is in place in an entry, given whether its node a is typicality of something.
+fn entry_placed(entry: Entry, typical_a: bool, sides: Sides) -> bool
+    ensures { (cs : List Concept) → is_typical (of cs (entry_a entry)) ≡ typical_a → Tells cs (entry_a entry) (entry_b entry) sides → result ≡ entry_placed cs entry }
 {
     match entry {
-        Entry::Inclusion(_, _) => (sides.typical_a || sides.plain_a) && sides.plain_b,
+        Entry::Inclusion(_, _) => (typical_a || sides.plain_a) && sides.plain_b,
         Entry::Fact(_, _) | Entry::RoleFact(_, _, _) | Entry::Absent => true,
     }
 }
 
-// The entry that is offered, or why a book of `count` entries and `nodes` nodes refuses it.
-pub fn judge_entry(count: u16, nodes: u16, sides: Sides, raw: RawEntry) -> Result<Entry, EnterFault>
-    ensures { (bk : Book) → length bk.lines ≡ count → length bk.nodes ≡ nodes → is_typical (concept bk raw.a) ≡ sides.typical_a → plain (concept bk raw.a) ≡ sides.plain_a → plain (concept bk raw.b) ≡ sides.plain_b → EntryJudged bk raw result }
+// The entry that is offered, or why it does not fit a book of `count` nodes.
+pub fn judge_entry(count: u16, typical_a: bool, sides: Sides, raw: RawEntry) -> Result<Entry, Unfit>
+    ensures { (bk : Book) → length bk.nodes ≡ count → is_typical (concept bk raw.a) ≡ typical_a → Tells (concepts bk.nodes) raw.a raw.b sides → Judged (entry_unfit bk raw) (entry_of raw) result }
 {
-    let entry = raw.entry();
-    if count >= 256 {
-        return Err(EnterFault::Full(count));
-    }
-    if !entry_known(entry) {
-        return Err(EnterFault::UnknownKind(count));
-    }
-    if !entry_within_limits(entry) || !entry_unused_zero(raw) {
-        return Err(EnterFault::OutOfRange(count));
-    }
-    if !entry_operands_below(nodes, entry) {
-        return Err(EnterFault::NoSuchNode(count));
-    }
-    if !entry_placed(entry, sides) {
-        return Err(EnterFault::TypicalMisplaced(count));
-    }
+    let entry = Entry::from(raw);
+    first_unfit(
+        !matches!(entry, Entry::Absent),
+        entry_within_limits(entry) && entry_unused_zero(raw),
+        entry_operands_below(count, entry),
+        entry_placed(entry, typical_a, sides),
+    )?;
     Ok(entry)
 }

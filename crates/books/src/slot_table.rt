@@ -2,39 +2,36 @@
 ghost use Rattle.std.specs.Prelude.{◌≡◌, ◌≤◌, vec_len, vec_capacity};
 ghost use Rattle.logic.specs.Concepts.{plain_marks};
 ghost use Rattle.logic.specs.Lawful.{Lawful};
+ghost use Rattle.books.specs.Marks.{bare, marks};
 ghost use Rattle.logic.proofs.Deciding.{lawful_known};
 
 use crate::book::{EditableBook, ReadableBook};
 use crate::faults::{EnterFault, NodeFault, StrikeFault};
-use crate::lines::{strike_line, taken};
+use crate::lines::{NO_LINE, strike_line, taken};
 use crate::lists::item_or;
-use crate::marked::{MarkedBook, offered_entry, offered_node};
-use crate::offers::plain_node;
-use logic::records::{Entry, Line, Node, RawEntry, RawNode};
+use crate::marked::{MarkedBook, MarkedNode, NO_NODE, may_strike, offered_entry, offered_node};
+use logic::records::{Line, Node, RawEntry, RawNode};
 use std::alloc::{AllocError, Global};
 
 const NODES: usize = 512;
 
 const ENTRIES: usize = 256;
 
-// The memory of all records is reserved when the table is made. `plain` has, for each node, whether no
-// typicality occurs in its concept.
+// The memory of all records is reserved when the table is made.
 #[derive(Drop)]
 pub struct SlotTable {
-    nodes: Vec<Node>,
-    plain: Vec<bool>,
+    nodes: Vec<MarkedNode>,
     lines: Vec<Line>,
     ghost node_room: { 512 ≤ vec_capacity nodes },
-    ghost plain_room: { 512 ≤ vec_capacity plain },
     ghost line_room: { 256 ≤ vec_capacity lines },
     ghost few_nodes: { vec_len nodes ≤ 512 },
     ghost few_lines: { vec_len lines ≤ 256 },
-    ghost marked: { plain.items ≡ plain_marks nodes.items },
-    ghost lawful: { ∥ Lawful (record { nodes = nodes.items; lines = lines.items }) ∥₁ },
+    ghost marked: { marks nodes.items ≡ plain_marks (bare nodes.items) },
+    ghost lawful: { ∥ Lawful (record { nodes = bare nodes.items; lines = lines.items }) ∥₁ },
 }
 
 impl ReadableBook for SlotTable {
-    ghost meaning = { λ t. record { nodes = t.nodes.items; lines = t.lines.items } };
+    ghost meaning = { λ t. record { nodes = bare t.nodes.items; lines = t.lines.items } };
 
     ghost lawful = { λ t. lawful_known _ t.lawful };
 
@@ -47,42 +44,31 @@ impl ReadableBook for SlotTable {
     }
 
     fn node_at(&self, i: u16) -> Node {
-        item_or(&self.nodes, i, Node::Absent)
+        item_or(&self.nodes, i, NO_NODE).node
     }
 
     fn entry_at(&self, i: u16) -> Line {
-        let none = Line {
-            entry: Entry::Absent,
-            live: false,
-        };
-        item_or(&self.lines, i, none)
+        item_or(&self.lines, i, NO_LINE)
     }
 }
 
 impl MarkedBook for SlotTable {
     fn plain_at(&self, i: u16) -> bool {
-        item_or(&self.plain, i, true)
+        item_or(&self.nodes, i, NO_NODE).plain
     }
 }
 
 impl EditableBook for SlotTable {
     fn new(heap: Global) -> Result<SlotTable, AllocError> {
         let nodes = Vec::with_capacity(heap, NODES)?;
-        let plain = Vec::with_capacity(heap, NODES)?;
         let lines = Vec::with_capacity(heap, ENTRIES)?;
-        Ok(SlotTable {
-            nodes,
-            plain,
-            lines,
-        })
+        Ok(SlotTable { nodes, lines })
     }
 
     fn node(&mut self, raw: RawNode) -> Result<u16, NodeFault> {
         let count = self.node_count();
         let node = offered_node(self, raw)?;
-        let plain = plain_node(node, self.plain_at(raw.a), self.plain_at(raw.b));
         self.nodes.push_reserved(node);
-        self.plain.push_reserved(plain);
         Ok(count)
     }
 
@@ -94,12 +80,7 @@ impl EditableBook for SlotTable {
     }
 
     fn strike(&mut self, i: u16) -> Result<(), StrikeFault> {
-        if i >= self.entry_count() {
-            return Err(StrikeFault::NeverEntered(i));
-        }
-        if !self.entry_at(i).live {
-            return Err(StrikeFault::Struck(i));
-        }
+        may_strike(self, i)?;
         strike_line(&mut self.lines, i);
         Ok(())
     }

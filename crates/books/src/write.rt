@@ -1,26 +1,42 @@
 // Writing a whole list of records, into any editable book.
-ghost use Rattle.books.specs.Writing.{NodesAnswer, EntriesAnswer};
+ghost use Rattle.books.specs.Answers.{Offer, nodes, entries, OfferAnswer};
+ghost use Rattle.books.specs.Writing.{ListAnswer};
 
 use crate::book::EditableBook;
-use crate::faults::{EnterFault, NodeFault};
+use crate::faults::{EnterFault, NodeFault, OfferFault};
 use logic::records::{RawEntry, RawNode};
 
-// Offers nodes one after the other, up to the first that is refused.
-pub fn write_nodes<B: EditableBook>(book: &mut B, raws: &[RawNode]) -> Result<(), NodeFault>
-    ensures { NodesAnswer (B.ReadableBook.meaning book.old) (B.ReadableBook.meaning book.new) raws.now result }
-{
-    for raw in raws {
-        book.node(*raw)?;
-    }
-    Ok(())
+// A record that can be offered to a book: a node or an entry.
+pub trait Offered: Copy {
+    ghost offer: { Offer Self };
+
+    // Offers the record.
+    fn offer_to<B: EditableBook>(self, book: &mut B) -> Result<u16, OfferFault<Self>>
+        ensures { OfferAnswer offer (B.ReadableBook.meaning book.old) (B.ReadableBook.meaning book.new) self result };
 }
 
-// Offers entries one after the other, up to the first that is refused.
-pub fn write_entries<B: EditableBook>(book: &mut B, raws: &[RawEntry]) -> Result<(), EnterFault>
-    ensures { EntriesAnswer (B.ReadableBook.meaning book.old) (B.ReadableBook.meaning book.new) raws.now result }
+impl Offered for RawNode {
+    ghost offer = { nodes };
+
+    fn offer_to<B: EditableBook>(self, book: &mut B) -> Result<u16, NodeFault> {
+        book.node(self)
+    }
+}
+
+impl Offered for RawEntry {
+    ghost offer = { entries };
+
+    fn offer_to<B: EditableBook>(self, book: &mut B) -> Result<u16, EnterFault> {
+        book.enter(self)
+    }
+}
+
+// Offers records one after the other, up to the first that is refused.
+pub fn write_all<B: EditableBook, R: Offered>(book: &mut B, raws: &[R]) -> Result<(), OfferFault<R>>
+    ensures { ListAnswer R.offer (B.ReadableBook.meaning book.old) (B.ReadableBook.meaning book.new) raws.now result }
 {
     for raw in raws {
-        book.enter(*raw)?;
+        raw.offer_to(book)?;
     }
     Ok(())
 }

@@ -1,35 +1,25 @@
 // What a call answered, in numbers that can be compared.
 use books::book::EditableBook;
 use logic::records::{RawEntry, RawNode};
-use logic::refusal::Refusal;
+use logic::refusal::told;
 
-#[derive(Clone, Copy, PartialEq, Eq, Debug)]
-pub enum Answer {
-    Granted(u16),
-    Refused(u8, usize),
-}
+// What was granted, or the number and the place of the refusal.
+pub(crate) type Answer = Result<u16, (u8, usize)>;
 
-fn refused<F: Refusal>(fault: &F) -> Answer {
-    Answer::Refused(fault.number(), fault.place())
-}
-
+// By number, as records are offered.
 pub(crate) fn node<B: EditableBook>(book: &mut B, kind: u8, a: u16, b: u16) -> Answer {
-    match book.node(RawNode { kind, a, b }) {
-        Ok(i) => Answer::Granted(i),
-        Err(fault) => refused(&fault),
-    }
+    book.node(RawNode { kind, a, b })
+        .map_err(|fault| told(&fault))
 }
 
 pub(crate) fn enter<B: EditableBook>(book: &mut B, kind: u8, a: u16, b: u16, c: u16) -> Answer {
-    match book.enter(RawEntry { kind, a, b, c }) {
-        Ok(i) => Answer::Granted(i),
-        Err(fault) => refused(&fault),
-    }
+    book.enter(RawEntry { kind, a, b, c })
+        .map_err(|fault| told(&fault))
 }
 
 pub(crate) fn strike<B: EditableBook>(book: &mut B, i: u16) -> Answer {
     match book.strike(i) {
-        Ok(()) => Answer::Granted(i),
-        Err(fault) => refused(&fault),
+        Ok(()) => Ok(i),
+        Err(fault) => Err(told(&fault)),
     }
 }

@@ -1,4 +1,5 @@
-// Tests of editable books at their limits, the same for every kind of book.
+// Tests of editable books at their limits, the same for every kind of book. Each test runs a generic function on
+// both kinds by name: no closure can be generic, so one function over these functions cannot be written.
 #![tactic(auto)]
 
 #[cfg(test)]

@@ -1,21 +1,19 @@
 // The limits on numbers and counts, and what stands past the end.
-use crate::answers::{Answer, enter, node, strike};
+use crate::answers::{enter, node, strike};
 use books::book::{EditableBook, ReadableBook};
 use books::journal::Journal;
 use books::slot_table::SlotTable;
-use books::write::{write_entries, write_nodes};
-use logic::records::{RawEntry, RawNode};
 use std::process::Abort;
 use std::test::Fail;
 
 fn node_limit<B: EditableBook>(rt: &impl Abort, book: &mut B) {
     for i in 0..512u16 {
-        assert_eq!(rt; node(book, 0, 0, 0), Answer::Granted(i));
+        assert_eq!(rt; node(book, 0, 0, 0), Ok(i));
     }
     assert_eq!(rt; book.node_count(), 512);
-    assert_eq!(rt; node(book, 0, 0, 0), Answer::Refused(1, 512));
+    assert_eq!(rt; node(book, 0, 0, 0), Err((1, 512)));
     // the limit comes before an unknown kind
-    assert_eq!(rt; node(book, 9, 0, 0), Answer::Refused(1, 512));
+    assert_eq!(rt; node(book, 9, 0, 0), Err((1, 512)));
     assert_eq!(rt; book.node_count(), 512);
 }
 
@@ -30,10 +28,10 @@ fn node_512_is_granted_and_513_refused(rt: HostRuntime) -> Result<(), Fail> {
 
 fn entry_limit<B: EditableBook>(rt: &impl Abort, book: &mut B) {
     for i in 0..256u16 {
-        assert_eq!(rt; enter(book, 3, 0, 0, 0), Answer::Granted(i));
+        assert_eq!(rt; enter(book, 3, 0, 0, 0), Ok(i));
     }
-    assert_eq!(rt; enter(book, 3, 0, 0, 0), Answer::Refused(1, 256));
-    assert_eq!(rt; enter(book, 9, 0, 0, 0), Answer::Refused(1, 256));
+    assert_eq!(rt; enter(book, 3, 0, 0, 0), Err((1, 256)));
+    assert_eq!(rt; enter(book, 9, 0, 0, 0), Err((1, 256)));
     assert_eq!(rt; book.entry_count(), 256);
 }
 
@@ -47,239 +45,52 @@ fn entry_256_is_granted_and_257_refused(rt: HostRuntime) -> Result<(), Fail> {
 }
 
 // Nodes that are refused by a book of one node, with the number of the refusal.
-const BAD_NODES: [(RawNode, u8); 22] = [
-    (
-        RawNode {
-            kind: 9,
-            a: 0,
-            b: 0,
-        },
-        2,
-    ),
-    (
-        RawNode {
-            kind: 255,
-            a: 0,
-            b: 0,
-        },
-        2,
-    ),
-    (
-        RawNode {
-            kind: 0,
-            a: 1,
-            b: 0,
-        },
-        3,
-    ),
-    (
-        RawNode {
-            kind: 0,
-            a: 0,
-            b: 1,
-        },
-        3,
-    ),
-    (
-        RawNode {
-            kind: 1,
-            a: 1,
-            b: 0,
-        },
-        3,
-    ),
-    (
-        RawNode {
-            kind: 1,
-            a: 0,
-            b: 1,
-        },
-        3,
-    ),
-    (
-        RawNode {
-            kind: 2,
-            a: 64,
-            b: 0,
-        },
-        3,
-    ),
-    (
-        RawNode {
-            kind: 2,
-            a: 0,
-            b: 1,
-        },
-        3,
-    ),
-    (
-        RawNode {
-            kind: 3,
-            a: 0,
-            b: 1,
-        },
-        3,
-    ),
-    (
-        RawNode {
-            kind: 6,
-            a: 16,
-            b: 0,
-        },
-        3,
-    ),
-    (
-        RawNode {
-            kind: 7,
-            a: 16,
-            b: 0,
-        },
-        3,
-    ),
-    (
-        RawNode {
-            kind: 8,
-            a: 0,
-            b: 1,
-        },
-        3,
-    ),
-    (
-        RawNode {
-            kind: 2,
-            a: 65535,
-            b: 0,
-        },
-        3,
-    ),
-    (
-        RawNode {
-            kind: 7,
-            a: 65535,
-            b: 0,
-        },
-        3,
-    ),
-    (
-        RawNode {
-            kind: 3,
-            a: 1,
-            b: 0,
-        },
-        4,
-    ),
-    (
-        RawNode {
-            kind: 4,
-            a: 1,
-            b: 0,
-        },
-        4,
-    ),
-    (
-        RawNode {
-            kind: 4,
-            a: 0,
-            b: 1,
-        },
-        4,
-    ),
-    (
-        RawNode {
-            kind: 5,
-            a: 1,
-            b: 0,
-        },
-        4,
-    ),
-    (
-        RawNode {
-            kind: 5,
-            a: 0,
-            b: 1,
-        },
-        4,
-    ),
-    (
-        RawNode {
-            kind: 6,
-            a: 0,
-            b: 1,
-        },
-        4,
-    ),
-    (
-        RawNode {
-            kind: 7,
-            a: 0,
-            b: 1,
-        },
-        4,
-    ),
-    (
-        RawNode {
-            kind: 8,
-            a: 1,
-            b: 0,
-        },
-        4,
-    ),
+const BAD_NODES: [(u8, u16, u16, u8); 22] = [
+    (9, 0, 0, 2),
+    (255, 0, 0, 2),
+    (0, 1, 0, 3),
+    (0, 0, 1, 3),
+    (1, 1, 0, 3),
+    (1, 0, 1, 3),
+    (2, 64, 0, 3),
+    (2, 0, 1, 3),
+    (3, 0, 1, 3),
+    (6, 16, 0, 3),
+    (7, 16, 0, 3),
+    (8, 0, 1, 3),
+    (2, 65535, 0, 3),
+    (7, 65535, 0, 3),
+    (3, 1, 0, 4),
+    (4, 1, 0, 4),
+    (4, 0, 1, 4),
+    (5, 1, 0, 4),
+    (5, 0, 1, 4),
+    (6, 0, 1, 4),
+    (7, 0, 1, 4),
+    (8, 1, 0, 4),
 ];
 
 // Nodes that a book grants one after the other.
-const GOOD_NODES: [RawNode; 8] = [
-    RawNode {
-        kind: 2,
-        a: 63,
-        b: 0,
-    },
-    RawNode {
-        kind: 6,
-        a: 15,
-        b: 0,
-    },
-    RawNode {
-        kind: 7,
-        a: 15,
-        b: 1,
-    },
-    RawNode {
-        kind: 3,
-        a: 2,
-        b: 0,
-    },
-    RawNode {
-        kind: 4,
-        a: 3,
-        b: 0,
-    },
-    RawNode {
-        kind: 5,
-        a: 0,
-        b: 4,
-    },
-    RawNode {
-        kind: 8,
-        a: 0,
-        b: 0,
-    },
-    RawNode {
-        kind: 1,
-        a: 0,
-        b: 0,
-    },
+const GOOD_NODES: [(u8, u16, u16); 8] = [
+    (2, 63, 0),
+    (6, 15, 0),
+    (7, 15, 1),
+    (3, 2, 0),
+    (4, 3, 0),
+    (5, 0, 4),
+    (8, 0, 0),
+    (1, 0, 0),
 ];
 
 fn nodes_at_their_limits<B: EditableBook>(rt: &impl Abort, book: &mut B) {
-    assert_eq!(rt; node(book, 2, 0, 0), Answer::Granted(0));
-    for (raw, number) in &BAD_NODES {
-        assert_eq!(rt;
-            node(book, raw.kind, raw.a, raw.b),
-            Answer::Refused(*number, 1)
-        );
+    assert_eq!(rt; node(book, 2, 0, 0), Ok(0));
+    for (kind, a, b, number) in BAD_NODES {
+        assert_eq!(rt; node(book, kind, a, b), Err((number, 1)));
     }
     assert_eq!(rt; book.node_count(), 1);
-    assert!(rt; write_nodes(book, &GOOD_NODES).is_ok());
+    for (kind, a, b) in GOOD_NODES {
+        assert!(rt; node(book, kind, a, b).is_ok());
+    }
     assert_eq!(rt; book.node_count(), 9);
 }
 
@@ -293,159 +104,35 @@ fn nodes_are_refused_past_their_limits(rt: HostRuntime) -> Result<(), Fail> {
 }
 
 // Entries that are refused by a book of one node and one entry, with the number of the refusal.
-const BAD_ENTRIES: [(RawEntry, u8); 13] = [
-    (
-        RawEntry {
-            kind: 0,
-            a: 0,
-            b: 0,
-            c: 0,
-        },
-        2,
-    ),
-    (
-        RawEntry {
-            kind: 4,
-            a: 0,
-            b: 0,
-            c: 0,
-        },
-        2,
-    ),
-    (
-        RawEntry {
-            kind: 17,
-            a: 0,
-            b: 0,
-            c: 0,
-        },
-        2,
-    ),
-    (
-        RawEntry {
-            kind: 255,
-            a: 0,
-            b: 0,
-            c: 0,
-        },
-        2,
-    ),
-    (
-        RawEntry {
-            kind: 1,
-            a: 0,
-            b: 0,
-            c: 1,
-        },
-        3,
-    ),
-    (
-        RawEntry {
-            kind: 2,
-            a: 32,
-            b: 0,
-            c: 0,
-        },
-        3,
-    ),
-    (
-        RawEntry {
-            kind: 2,
-            a: 0,
-            b: 0,
-            c: 1,
-        },
-        3,
-    ),
-    (
-        RawEntry {
-            kind: 3,
-            a: 16,
-            b: 0,
-            c: 0,
-        },
-        3,
-    ),
-    (
-        RawEntry {
-            kind: 3,
-            a: 0,
-            b: 32,
-            c: 0,
-        },
-        3,
-    ),
-    (
-        RawEntry {
-            kind: 3,
-            a: 0,
-            b: 0,
-            c: 32,
-        },
-        3,
-    ),
-    (
-        RawEntry {
-            kind: 1,
-            a: 1,
-            b: 0,
-            c: 0,
-        },
-        4,
-    ),
-    (
-        RawEntry {
-            kind: 1,
-            a: 0,
-            b: 1,
-            c: 0,
-        },
-        4,
-    ),
-    (
-        RawEntry {
-            kind: 2,
-            a: 0,
-            b: 1,
-            c: 0,
-        },
-        4,
-    ),
+const BAD_ENTRIES: [(u8, u16, u16, u16, u8); 13] = [
+    (0, 0, 0, 0, 2),
+    (4, 0, 0, 0, 2),
+    (17, 0, 0, 0, 2),
+    (255, 0, 0, 0, 2),
+    (1, 0, 0, 1, 3),
+    (2, 32, 0, 0, 3),
+    (2, 0, 0, 1, 3),
+    (3, 16, 0, 0, 3),
+    (3, 0, 32, 0, 3),
+    (3, 0, 0, 32, 3),
+    (1, 1, 0, 0, 4),
+    (1, 0, 1, 0, 4),
+    (2, 0, 1, 0, 4),
 ];
 
 // Entries that it grants.
-const GOOD_ENTRIES: [RawEntry; 3] = [
-    RawEntry {
-        kind: 1,
-        a: 0,
-        b: 0,
-        c: 0,
-    },
-    RawEntry {
-        kind: 2,
-        a: 31,
-        b: 0,
-        c: 0,
-    },
-    RawEntry {
-        kind: 3,
-        a: 15,
-        b: 31,
-        c: 31,
-    },
-];
+const GOOD_ENTRIES: [(u8, u16, u16, u16); 3] = [(1, 0, 0, 0), (2, 31, 0, 0), (3, 15, 31, 31)];
 
 fn entries_at_their_limits<B: EditableBook>(rt: &impl Abort, book: &mut B) {
-    assert_eq!(rt; node(book, 2, 0, 0), Answer::Granted(0));
-    assert_eq!(rt; enter(book, 3, 0, 0, 0), Answer::Granted(0));
-    for (raw, number) in &BAD_ENTRIES {
-        assert_eq!(rt;
-            enter(book, raw.kind, raw.a, raw.b, raw.c),
-            Answer::Refused(*number, 1)
-        );
+    assert_eq!(rt; node(book, 2, 0, 0), Ok(0));
+    assert_eq!(rt; enter(book, 3, 0, 0, 0), Ok(0));
+    for (kind, a, b, c, number) in BAD_ENTRIES {
+        assert_eq!(rt; enter(book, kind, a, b, c), Err((number, 1)));
     }
     assert_eq!(rt; book.entry_count(), 1);
-    assert!(rt; write_entries(book, &GOOD_ENTRIES).is_ok());
+    for (kind, a, b, c) in GOOD_ENTRIES {
+        assert!(rt; enter(book, kind, a, b, c).is_ok());
+    }
     assert_eq!(rt; book.entry_count(), 4);
 }
 
@@ -463,9 +150,9 @@ fn filled<B: EditableBook>(rt: &impl Abort, book: &mut B) {
     node_limit(rt, book);
     entry_limit(rt, book);
     for i in 0..256u16 {
-        assert_eq!(rt; strike(book, i), Answer::Granted(i));
+        assert_eq!(rt; strike(book, i), Ok(i));
     }
-    assert_eq!(rt; strike(book, 0), Answer::Refused(6, 0));
+    assert_eq!(rt; strike(book, 0), Err((6, 0)));
     assert!(rt; !book.entry_at(255).live);
 }
 

@@ -1,43 +1,45 @@
 // What a book answers of its records: as they were offered, past the end, and after a strike.
-use crate::answers::{Answer, strike};
+use crate::answers::strike;
 use books::book::{EditableBook, ReadableBook};
 use books::journal::Journal;
 use books::sample;
 use books::slot_table::SlotTable;
-use books::write::{write_entries, write_nodes};
+use books::write::write_all;
+use logic::records::{RawEntry, RawNode};
 use std::process::Abort;
 use std::test::Fail;
 
-fn check_node<B: ReadableBook>(rt: &impl Abort, book: &B, i: u16, kind: u8, a: u16, b: u16) {
-    let raw = book.node_at(i).raw();
-    assert!(rt; raw.kind == kind && raw.a == a && raw.b == b, "node");
+// What stands past the end.
+const NO_NODE: RawNode = RawNode {
+    kind: 255,
+    a: 0,
+    b: 0,
+};
+
+const NO_ENTRY: RawEntry = RawEntry {
+    kind: 255,
+    a: 0,
+    b: 0,
+    c: 0,
+};
+
+fn check_node<B: ReadableBook>(rt: &impl Abort, book: &B, i: u16, raw: RawNode) {
+    assert!(rt; RawNode::from(book.node_at(i)) == raw, "node");
 }
 
-fn check_line<B: ReadableBook>(
-    rt: &impl Abort,
-    book: &B,
-    i: u16,
-    kind: u8,
-    a: u16,
-    b: u16,
-    c: u16,
-) {
-    let raw = book.entry_at(i).entry.raw();
-    assert!(rt;
-        raw.kind == kind && raw.a == a && raw.b == b && raw.c == c,
-        "entry"
-    );
+fn check_line<B: ReadableBook>(rt: &impl Abort, book: &B, i: u16, raw: RawEntry) {
+    assert!(rt; RawEntry::from(book.entry_at(i).entry) == raw, "entry");
 }
 
 fn reads_back<B: EditableBook>(rt: &impl Abort, book: &mut B) {
-    assert!(rt; write_nodes(book, &sample::NODES).is_ok());
-    assert!(rt; write_entries(book, &sample::ENTRIES).is_ok());
-    for (i, raw) in sample::NODES.iter().enumerate() {
-        check_node(rt, book, i as u16, raw.kind, raw.a, raw.b);
+    assert!(rt; write_all(book, &sample::NODES).is_ok());
+    assert!(rt; write_all(book, &sample::ENTRIES).is_ok());
+    for (i, raw) in (0..).zip(sample::NODES) {
+        check_node(rt, book, i, raw);
     }
-    for (i, raw) in sample::ENTRIES.iter().enumerate() {
-        check_line(rt, book, i as u16, raw.kind, raw.a, raw.b, raw.c);
-        assert!(rt; book.entry_at(i as u16).live);
+    for (i, raw) in (0..).zip(sample::ENTRIES) {
+        check_line(rt, book, i, raw);
+        assert!(rt; book.entry_at(i).live);
     }
 }
 
@@ -51,10 +53,10 @@ fn records_read_back_as_offered(rt: HostRuntime) -> Result<(), Fail> {
 }
 
 fn absent_from<B: ReadableBook>(rt: &impl Abort, book: &B, nodes: u16, entries: u16) {
-    check_node(rt, book, nodes, 255, 0, 0);
-    check_node(rt, book, 65535, 255, 0, 0);
-    check_line(rt, book, entries, 255, 0, 0, 0);
-    check_line(rt, book, 65535, 255, 0, 0, 0);
+    check_node(rt, book, nodes, NO_NODE);
+    check_node(rt, book, 65535, NO_NODE);
+    check_line(rt, book, entries, NO_ENTRY);
+    check_line(rt, book, 65535, NO_ENTRY);
     assert!(rt; !book.entry_at(entries).live);
     assert!(rt; !book.entry_at(65535).live);
 }
@@ -75,14 +77,14 @@ fn nothing_stands_past_the_end(rt: HostRuntime) -> Result<(), Fail> {
 }
 
 fn strikes<B: EditableBook>(rt: &impl Abort, book: &mut B) {
-    assert_eq!(rt; strike(book, 0), Answer::Refused(6, 0));
+    assert_eq!(rt; strike(book, 0), Err((6, 0)));
     reads_back(rt, book);
-    assert_eq!(rt; strike(book, 1), Answer::Granted(1));
-    assert_eq!(rt; strike(book, 1), Answer::Refused(6, 1));
-    assert_eq!(rt; strike(book, 3), Answer::Refused(6, 3));
-    assert_eq!(rt; strike(book, 65535), Answer::Refused(6, 65535));
+    assert_eq!(rt; strike(book, 1), Ok(1));
+    assert_eq!(rt; strike(book, 1), Err((6, 1)));
+    assert_eq!(rt; strike(book, 3), Err((6, 3)));
+    assert_eq!(rt; strike(book, 65535), Err((6, 65535)));
     assert!(rt; book.entry_at(0).live && !book.entry_at(1).live && book.entry_at(2).live);
-    check_line(rt, book, 1, 1, 5, 6, 0);
+    check_line(rt, book, 1, sample::ENTRIES[1]);
     assert_eq!(rt; book.entry_count(), 3);
 }
 

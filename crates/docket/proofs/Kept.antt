@@ -70,8 +70,8 @@ kept_move (strike j (Ok u)) h s t k (moved, next, used) = record {
   used = same_used s t (last_steps h) used k.used;
 }
 kept_move (strike j (Err f)) h s t k (e, is, moved, kept) = record {
-  book = quiet (strike j (Err f)) h _ _ (λ z. z) (λ i z. z) refl refl moved.3 k.book;
-  standing = stay _ _ _ _ _ _ moved.3 kept.standing kept.used k.standing;
+  book = quiet (strike j (Err f)) h _ _ (λ z. z) (λ i z. z) refl refl moved.1 k.book;
+  standing = stay _ _ _ _ _ _ moved.1 kept.standing kept.used k.standing;
   used = same_used s t (last_steps h) kept.used k.used;
 }
 kept_move (refute bs ls (Ok n)) h s t k (closed, number, same, next, used) = record {

@@ -56,9 +56,6 @@ book_node raw n h bk granted b = record {
   live = λ i. quiet_live (node raw (Ok n)) h i (live_at bk i) (λ z. z) (λ z. z) (b.live i);
 }
 
-entered_number : (raw sam : RawEntry) (n i : ℕ) → enter raw (Ok n) ≡ enter sam (Ok i) → n ≡ i
-entered_number raw sam n i q = cc
-
 -- one entry more: it is live, and so are those that were
 enter_stands : (raw : RawEntry) (n : ℕ) (h : List Event) (bk : Book) → n ≡ length bk.lines → ((i : ℕ) → Decides (live_at bk i) (Stands i h)) → (i : ℕ) → live_at (with_entry bk (entry_of raw)) i ≡ true → Stands i (enter raw (Ok n) ∷ h)
 enter_stands raw n h bk number live i l = elim (cases_lt i (length bk.lines)) [
@@ -71,7 +68,7 @@ enter_stands raw n h bk number live i l = elim (cases_lt i (length bk.lines)) [
 
 enter_live : (raw : RawEntry) (n : ℕ) (h : List Event) (bk : Book) → n ≡ length bk.lines → ((i : ℕ) → Decides (live_at bk i) (Stands i h)) → (i : ℕ) → Stands i (enter raw (Ok n) ∷ h) → live_at (with_entry bk (entry_of raw)) i ≡ true
 enter_live raw n h bk number live i s = elim (split (enter raw (Ok n)) h i s) [
-  | inl p ↦ enter_here bk (entry_of raw) i (sym number ∙ entered_number raw p.0 n i p.1)
+  | inl p ↦ enter_here bk (entry_of raw) i (cc p.1)
   | inr p ↦
       (let l = (live i).1 p.1 in
       ap (λ (k : Line). k.live) (enter_before bk (entry_of raw) i (live_there bk i l)) ∙ l)

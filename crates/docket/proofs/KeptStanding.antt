@@ -13,7 +13,7 @@ use Rattle.docket.specs.declared.standing.Standing.TheVariants.{Open, Refuted, S
 use Rattle.docket.specs.declared.standing.Granted.TheVariants.{Entered, Closed, Satisfied}
 use Rattle.docket.specs.Standings.{Next, struck_as}
 use Rattle.docket.proofs.Changes.{live_at, entry_at, live_there, satisfies_at, holds_at, node_holds, node_held, enter_before, strike_other, strike_apart}
-use Rattle.docket.proofs.Table.{open_refuted, open_shown, refuted_shown, sure_entered, sure_struck, sure_closed, sure_satisfied, closed_next, satisfied_next, entered_refuted, entered_shown, struck_refuted, struck_shown}
+use Rattle.docket.proofs.Table.{sure_entered, sure_struck, sure_closed, sure_satisfied, closed_next, satisfied_next, entered_refuted, entered_shown, struck_refuted, struck_shown}
 
 -- the entries of a set are live, and no model makes all of them true
 pub record Core (bk : Book) (used : ℕ → Bool) : Type 0 where
@@ -37,8 +37,8 @@ pub record StandingKept (bk : Book) (s : Standing) (used : ℕ → Bool) : Type 
 
 pub standing_new : (bk : Book) (s : Standing) (used : ℕ → Bool) → s ≡ Open → StandingKept bk s used
 standing_new bk s used o = record {
-  core = λ e. absurd (open_refuted (sym o ∙ e));
-  model = λ e. absurd (open_shown (sym o ∙ e));
+  core = λ e. cc;
+  model = λ e. cc;
 }
 
 -- nothing moved
@@ -93,9 +93,9 @@ not_refuted bk s used m t k e = core_no_model bk used (k.core e) m t
 pub standing_refute : (bk : Book) (s t : Standing) (used now-used : ℕ → Bool) → Core bk now-used → Next (Unit {0}) s Closed t → StandingKept bk s used → StandingKept bk t now-used
 standing_refute bk s t used now-used c next k =
     let here = closed_next s t (sure_closed s t (not_shown bk s used (core_no_model bk now-used c) k) next) in
-    record { core = λ e. c; model = λ e. absurd (refuted_shown (sym here ∙ e)) }
+    record { core = λ e. c; model = λ e. cc }
 
 pub standing_show : (bk : Book) (s t : Standing) (used : ℕ → Bool) (m : Model) → Satisfies m bk → Next (Unit {0}) s Satisfied t → StandingKept bk s used → StandingKept bk t used
 standing_show bk s t used m sat next k =
     let here = satisfied_next s t (sure_satisfied s t (not_refuted bk s used m sat k) next) in
-    record { core = λ e. absurd (refuted_shown (sym e ∙ here)); model = λ e. (m, sat) }
+    record { core = λ e. cc; model = λ e. (m, sat) }

@@ -14,7 +14,7 @@ use Rattle.docket.specs.Events.{Event, Event.node, Event.enter, Event.strike, Ev
 use Rattle.docket.specs.Runs.{State, Moves, Moved, Moved.none, Moved.then, New}
 use Rattle.docket.specs.Histories.{last_steps, Tabled, Stood, Stood.opened, Stood.followed, Lifts, Takes}
 use Rattle.docket.specs.Laws.{Answered, Closing, Modelling, StepLaw, DocketLaw, ModelsHanded}
-use Rattle.docket.proofs.Table.{open_refuted, open_shown, sure_entered, sure_struck, sure_closed, sure_satisfied, closed_next, satisfied_next}
+use Rattle.docket.proofs.Table.{sure_entered, sure_struck, sure_closed, sure_satisfied, closed_next, satisfied_next}
 use Rattle.docket.proofs.KeptStanding.{core_no_model, not_shown, not_refuted}
 use Rattle.docket.proofs.Kept.{KeptRun, refutation_core, kept_run}
 
@@ -24,7 +24,7 @@ answered (node raw (Err f)) s t (e, is, moved, kept) = (e, is, moved.0)
 answered (enter raw (Ok i)) s t (moved, next, used) = (moved.0, moved.1)
 answered (enter raw (Err f)) s t (e, is, moved, kept) = (e, is, moved.0)
 answered (strike i (Ok u)) s t (moved, next, used) = moved.0
-answered (strike i (Err f)) s t (e, is, moved, kept) = (e, is, moved.0, moved.2)
+answered (strike i (Err f)) s t (e, is, moved, kept) = (e, is, moved.0.0, moved.0.2)
 answered (refute bs ls (Ok n)) s t (closed, number, same, next, used) = (closed, number)
 answered (refute bs ls (Err f)) s t (e, is, why, open-yet, same, kept) = (e, is, why, open-yet)
 answered (show bs o list (Ok n)) s t (shown, same, next, used) = shown
@@ -54,7 +54,7 @@ unmoved : {N : Type 0} (s t : Standing) → t ≡ s → (N → ⊥) → (t ≡ s
 unmoved s t e n = (λ move. absurd (move e), λ c. absurd (n c))
 
 lifted_struck : (b : Bool) (t : Standing) → Next ⊥ Refuted (struck_as b) t → (t ≡ Refuted → ⊥) ↔ (b ≡ true)
-lifted_struck true t e = (λ _. refl, λ _ r. open_refuted (sym e ∙ r))
+lifted_struck true t e = (λ _. refl, λ _ r. cc)
 lifted_struck false t e = unmoved Refuted t e false≢true
 
 lifted : (e : Event) (h : List Event) (t : Standing) → Tabled h e Refuted t → (t ≡ Refuted → ⊥) ↔ Lifts h e
@@ -75,7 +75,7 @@ shown_struck false t e = e
 
 reopened : (e : Event) (h : List Event) (t : Standing) → Tabled h e Shown t → (t ≡ Shown → ⊥) ↔ Takes e
 reopened (node raw r) h t n = unmoved Shown t n (λ z. z)
-reopened (enter raw (Ok i)) h t n = (λ _. tt, λ _ e. open_shown (sym n ∙ e))
+reopened (enter raw (Ok i)) h t n = (λ _. tt, λ _ e. cc)
 reopened (enter raw (Err f)) h t n = unmoved Shown t n (λ z. z)
 reopened (strike i (Ok u)) h t n = unmoved Shown t (shown_struck (names (last_steps h) i) t n) (λ z. z)
 reopened (strike i (Err f)) h t n = unmoved Shown t n (λ z. z)

@@ -20,11 +20,12 @@ use Rattle.models.specs.Interpretations.{said}
 use Rattle.models.specs.Meanings.{Fits, meant}
 use Rattle.models.specs.Answers.{Whole}
 use Rattle.models.specs.Encodings.{model_bytes, MeansBetter}
-use Rattle.books.specs.declared.faults.NodeFault.{NodeFault}
-use Rattle.books.specs.declared.faults.EnterFault.{EnterFault}
+use Rattle.logic.specs.declared.records.RawNode.{RawNode}
+use Rattle.logic.specs.declared.records.RawEntry.{RawEntry}
+use Rattle.books.specs.declared.faults.OfferFault.{OfferFault}
 use Rattle.books.specs.declared.faults.StrikeFault.{StrikeFault}
 use Rattle.books.specs.Faults.{strike_fault_place}
-use Rattle.books.specs.Answers.{NodeRefused, EntryRefused, NotToStrike}
+use Rattle.books.specs.Answers.{nodes, entries, Refused, NotToStrike}
 use Rattle.judge.specs.declared.faults.RefuteFault.{RefuteFault}
 use Rattle.judge.specs.declared.show_faults.ShowFault.{ShowFault}
 use Rattle.judge.specs.Steps.{decoded, encoded}
@@ -60,9 +61,9 @@ pub record Law (h : List Event) (s : State) : Type 0 where
 -- the number of elements, or the judge's exact fault.
 abbrev pub Answered : Book → Standing → Event → Type 0
 Answered bk s (node raw (Ok i)) = (node_refusal bk raw ≡ 0) × (i ≡ length bk.nodes)
-Answered bk s (node raw (Err f)) = (e : NodeFault) × (f ≡ fault.Node e) × NodeRefused bk raw e
+Answered bk s (node raw (Err f)) = (e : OfferFault RawNode) × (f ≡ fault.Node e) × Refused nodes bk raw e
 Answered bk s (enter raw (Ok i)) = (entry_refusal bk raw ≡ 0) × (i ≡ length bk.lines)
-Answered bk s (enter raw (Err f)) = (e : EnterFault) × (f ≡ fault.Enter e) × EntryRefused bk raw e
+Answered bk s (enter raw (Err f)) = (e : OfferFault RawEntry) × (f ≡ fault.Enter e) × Refused entries bk raw e
 Answered bk s (strike i (Ok u)) = (line_at bk i).live ≡ true
 Answered bk s (strike i (Err f)) = (e : StrikeFault) × (f ≡ fault.Strike e) × NotToStrike bk i e × (strike_fault_place e ≡ i)
 Answered bk s (refute bs ls (Ok n)) = Refutation bk ls bs × (n ≡ used (decoded bs))

@@ -5,10 +5,11 @@
 use Rattle.std.specs.Prelude.{◌≡◌, ℕ, Bool, false, List, [], ◌∷◌, length, Ok, Err}
 use Rattle.logic.specs.Books.{Book, empty}
 use Rattle.logic.specs.Tableaux.{names, used}
-use Rattle.books.specs.declared.faults.NodeFault.{NodeFault}
-use Rattle.books.specs.declared.faults.EnterFault.{EnterFault}
+use Rattle.logic.specs.declared.records.RawNode.{RawNode}
+use Rattle.logic.specs.declared.records.RawEntry.{RawEntry}
+use Rattle.books.specs.declared.faults.OfferFault.{OfferFault}
 use Rattle.books.specs.declared.faults.StrikeFault.{StrikeFault}
-use Rattle.books.specs.Answers.{NodeAnswer, EnterAnswer, StrikeAnswer}
+use Rattle.books.specs.Answers.{nodes, entries, OfferAnswer, StrikeAnswer}
 use Rattle.judge.specs.declared.faults.RefuteFault.{RefuteFault}
 use Rattle.judge.specs.declared.show_faults.ShowFault.{ShowFault}
 use Rattle.judge.specs.Steps.{decoded}
@@ -37,13 +38,13 @@ pub record Kept (s t : State) : Type 0 where
 -- becomes the last one. A refused call changes nothing, and its fault holds that of the lower call whole.
 -- What would stand in a cell that does not occur is left open here; the law rules it out.
 abbrev pub Moves : Event → State → State → Type 0
-Moves (node raw (Ok i)) s t = NodeAnswer s.book t.book raw (Ok i) × Kept s t
+Moves (node raw (Ok i)) s t = OfferAnswer nodes s.book t.book raw (Ok i) × Kept s t
 Moves (node raw (Err f)) s t =
-    (e : NodeFault) × (f ≡ fault.Node e) × NodeAnswer s.book t.book raw (Err e) × Kept s t
+    (e : OfferFault RawNode) × (f ≡ fault.Node e) × OfferAnswer nodes s.book t.book raw (Err e) × Kept s t
 Moves (enter raw (Ok i)) s t =
-    EnterAnswer s.book t.book raw (Ok i) × Next (Unit {0}) s.standing Entered t.standing × (t.used ≡ s.used)
+    OfferAnswer entries s.book t.book raw (Ok i) × Next (Unit {0}) s.standing Entered t.standing × (t.used ≡ s.used)
 Moves (enter raw (Err f)) s t =
-    (e : EnterFault) × (f ≡ fault.Enter e) × EnterAnswer s.book t.book raw (Err e) × Kept s t
+    (e : OfferFault RawEntry) × (f ≡ fault.Enter e) × OfferAnswer entries s.book t.book raw (Err e) × Kept s t
 Moves (strike i (Ok u)) s t =
     StrikeAnswer s.book t.book i (Ok u) × Next (Unit {0}) s.standing (struck_as (s.used i)) t.standing × (t.used ≡ s.used)
 Moves (strike i (Err f)) s t =

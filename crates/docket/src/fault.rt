@@ -17,7 +17,7 @@ pub enum Fault {
     Show(ShowFault),
 }
 
-// The number and the place are those of the lower fault.
+// Those of the lower fault, by two matches: one method for both would hand out a `dyn`, which the gate refuses.
 impl Refusal for Fault {
     ghost numbered = { fault_number };
 
@@ -44,6 +44,7 @@ impl Refusal for Fault {
     }
 }
 
+// An impl for each lower fault: derived ones have no `from_gives`, by which a clause reads what a `?` makes.
 impl From<NodeFault> for Fault {
     ghost from_gives = { λ e f. f ≡ Node e };
 

@@ -4,9 +4,9 @@ use Rattle.std.specs.Option.{ok_or}
 use Rattle.std.proofs.lemmas.List.{get_or_default, get_or_past}
 use Rattle.std.proofs.lemmas.Bool.{false≢true, not-false, and_parts, and_from, eqb-true, eq-eqb, ltb-true, lt-ltb, cond-true, cases_lt}
 use Rattle.logic.specs.declared.records.Node.{Node}
-use Rattle.logic.specs.declared.records.Node.TheVariants.{Top, Bottom, Name, Not, And, Or, All, Exists, Typical, Absent}
+use Rattle.logic.specs.declared.records.Node.TheVariants.{Top, Bottom, Not, And, Or, All, Exists, Typical}
 use Rattle.logic.specs.declared.records.Entry.{Entry}
-use Rattle.logic.specs.declared.records.Entry.TheVariants.{Inclusion, Fact, RoleFact, Absent as No-entry}
+use Rattle.logic.specs.declared.records.Entry.TheVariants.{Inclusion, Fact, RoleFact}
 use Rattle.logic.specs.declared.records.Line.{Line}
 use Rattle.logic.specs.declared.tableau.Form.{Form}
 use Rattle.logic.specs.declared.tableau.Form.TheVariants.{Holds, Fails, Bars, Admits}
@@ -27,30 +27,10 @@ use Rattle.judge.specs.declared.step_fault.StepFault.{StepFault}
 use Rattle.judge.specs.declared.step_fault.StepFault.TheVariants.{Malformed, NeverEntered, NotThere, Struck, Misfit}
 use Rattle.judge.specs.Blanks.{no_constraint, no_edge}
 use Rattle.judge.specs.Ops.{op_of, operand_of, cites, stray, there}
-use Rattle.judge.specs.Decisions.{number_of, only, along, alike, denies, row, expanded, cited, by_entry, by_constraint, by_op, decided, decision}
+use Rattle.judge.specs.Decisions.{number_of, along, alike, denies, row, expanded, cited, by_entry, by_constraint, by_op, decided, decision}
 use Rattle.judge.proofs.Parting.{entry_found, constraint_found}
 
--- an op has one number, and a number one op
-of_number : (o : Op) → op_of (number_of o) ≡ Some o
-of_number op.Assert = refl
-of_number op.Include = refl
-of_number op.Negation = refl
-of_number op.Conjunction = refl
-of_number op.Disjunction = refl
-of_number op.Successor = refl
-of_number op.AlongRole = refl
-of_number op.Typical = refl
-of_number op.Atypical = refl
-of_number op.Better = refl
-of_number op.AlongBetter = refl
-of_number op.Clash = refl
-of_number op.Absurd = refl
-
-which : (o p : Op) (k : ℕ) → number_of o ≡ k → op_of k ≡ Some p → o ≡ p
-which o p k e h =
-    let q : Some o ≡ Some p = sym (of_number o) ∙ ap op_of e ∙ h in
-    cc
-
+-- a number that has an op is the number of that op
 one_of : (k j : ℕ) (x o : Op) (rest : Option Op) → j ≡ number_of x → (rest ≡ Some o → k ≡ number_of o) → cond (eqb k j) (Some x) rest ≡ Some o → k ≡ number_of o
 one_of k j x o rest e f = go (eqb k j) refl
   where
@@ -127,125 +107,98 @@ module _ (bk : Book) (br : Branch) (s : Step) where
   refused true r f h = tt
   refused false r f h = h refl
 
-  module _ (o : Op) (is : s.op ≡ number_of o) (used : stray (operand_of o) s.b ≡ false) (here : there (operand_of o) br s.b ≡ true) where
-    fits : (k : ℕ) (p : Op) (f : Option Effect) → op_of k ≡ Some p → (o ≡ p → DoesSome f) → DoesSome (only k o f)
-    fits k p f e d = where_true (eqb (number_of o) k) f (λ h. d (which o p k (eqb-true (number_of o) k h) e))
+  -- the step has this op, and its operand b is as the op asks
+  record Asks (o : Op) : Type 0 where
+    is : s.op ≡ number_of o
+    used : stray (operand_of o) s.b ≡ false
+    here : there (operand_of o) br s.b ≡ true
 
-    -- the step, where its operand b is unused, and where it is not
-    unary : (p : Op) → o ≡ p → operand_of p ≡ Unused → step (number_of p) s.a 0 ≡ s
-    unary p e u =
-        let z : s.b ≡ 0 = eqb-true s.b 0 (not-false _ (subst (λ v. stray v s.b ≡ false) (ap operand_of e ∙ u) used)) in
-        sym (λ i. record { op = (is ∙ ap number_of e) i; a = s.a; b = z i })
+  -- the step, where its operand b is unused, and where it is not
+  unary : (o : Op) → Asks o → operand_of o ≡ Unused → step (number_of o) s.a 0 ≡ s
+  unary o h u =
+      let z : s.b ≡ 0 = eqb-true s.b 0 (not-false _ (subst (λ v. stray v s.b ≡ false) u h.used)) in
+      sym (λ i. record { op = h.is i; a = s.a; b = z i })
 
-    binary : (p : Op) → o ≡ p → step (number_of p) s.a s.b ≡ s
-    binary p e = sym (λ i. record { op = (is ∙ ap number_of e) i; a = s.a; b = s.b })
+  binary : (o : Op) → Asks o → step (number_of o) s.a s.b ≡ s
+  binary o h = sym (λ i. record { op = h.is i; a = s.a; b = s.b })
 
-    extend_by : (p : Op) (b : Branch) → o ≡ p → operand_of p ≡ Unused → Extends bk br (step (number_of p) s.a 0) b → Extends bk br s b
-    extend_by p b e u r = subst (λ v. Extends bk br v b) (unary p e u) r
+  extend_by : (o : Op) (b : Branch) → Asks o → operand_of o ≡ Unused → Extends bk br (step (number_of o) s.a 0) b → Extends bk br s b
+  extend_by o b h u r = subst (λ v. Extends bk br v b) (unary o h u) r
 
-    extend_along : (p : Op) (b : Branch) → o ≡ p → Extends bk br (step (number_of p) s.a s.b) b → Extends bk br s b
-    extend_along p b e r = subst (λ v. Extends bk br v b) (binary p e) r
+  extend_along : (o : Op) (b : Branch) → Asks o → Extends bk br (step (number_of o) s.a s.b) b → Extends bk br s b
+  extend_along o b h r = subst (λ v. Extends bk br v b) (binary o h) r
 
-    split_by : (p : Op) (b d : Branch) → o ≡ p → operand_of p ≡ Unused → Splits bk br (step (number_of p) s.a 0) b d → Splits bk br s b d
-    split_by p b d e u r = subst (λ v. Splits bk br v b d) (unary p e u) r
+  split_by : (o : Op) (b d : Branch) → Asks o → operand_of o ≡ Unused → Splits bk br (step (number_of o) s.a 0) b d → Splits bk br s b d
+  split_by o b d h u r = subst (λ v. Splits bk br v b d) (unary o h u) r
 
-    split_at : (p : Op) (b d : Branch) → o ≡ p → Splits bk br (step (number_of p) s.a s.b) b d → Splits bk br s b d
-    split_at p b d e r = subst (λ v. Splits bk br v b d) (binary p e) r
+  split_at : (o : Op) (b d : Branch) → Asks o → Splits bk br (step (number_of o) s.a s.b) b d → Splits bk br s b d
+  split_at o b d h r = subst (λ v. Splits bk br v b d) (binary o h) r
 
-    close_by : (p : Op) → o ≡ p → operand_of p ≡ Unused → Closes bk br (step (number_of p) s.a 0) → Closes bk br s
-    close_by p e u r = subst (λ v. Closes bk br v) (unary p e u) r
+  close_by : (o : Op) → Asks o → operand_of o ≡ Unused → Closes bk br (step (number_of o) s.a 0) → Closes bk br s
+  close_by o h u r = subst (λ v. Closes bk br v) (unary o h u) r
 
-    -- what operand b names is there
-    there_by : (p : Op) → o ≡ p → there (operand_of p) br s.b ≡ true
-    there_by p e = subst (λ v. there (operand_of v) br s.b ≡ true) e here
+  -- what else the step names
+  abbrev passed : Edge
+  passed = get_or br.edges s.b no_edge
 
-    abbrev passed : Edge
-    passed = get_or br.edges s.b no_edge
+  abbrev other : Constraint
+  other = get_or br.constraints s.b no_constraint
 
-    -- the edge that the step names leads from x by role r
-    passing : (p : Op) (x r : ℕ) (f : Effect) → o ≡ p → operand_of p ≡ EdgeOperand → (Leads br s.b x r passed.to → Does f) → DoesSome (along passed x r f)
-    passing p x r f e u d =
-        where_true _ (Some f)
-        (λ h.
-        let q = and_parts _ _ h in
-        let from : passed.from ≡ x = eqb-true passed.from x q.0 in
-        let role : passed.role ≡ r = eqb-true passed.role r q.1 in
-        let within : s.b < length br.edges = ltb-true s.b (length br.edges) (subst (λ v. there v br s.b ≡ true) u (there_by p e)) in
-        d (subst (λ v. At br.edges s.b v) (λ i. edge (from i) (role i) passed.to) (stands br.edges s.b no_edge within)))
+  -- the edge that the step names leads from x by role r
+  passing : (o : Op) (x r : ℕ) (f : Effect) → Asks o → operand_of o ≡ EdgeOperand → (Leads br s.b x r passed.to → Does f) → DoesSome (along passed x r f)
+  passing o x r f h u d =
+      where_true _ (Some f)
+      (λ t.
+      let q = and_parts _ _ t in
+      let from : passed.from ≡ x = eqb-true passed.from x q.0 in
+      let role : passed.role ≡ r = eqb-true passed.role r q.1 in
+      let within : s.b < length br.edges = ltb-true s.b (length br.edges) (subst (λ v. there v br s.b ≡ true) u h.here) in
+      d (subst (λ v. At br.edges s.b v) (λ i. edge (from i) (role i) passed.to) (stands br.edges s.b no_edge within)))
 
-    row_does : (f : Form) (m : Node) (x n : ℕ) → Says br s.a x f n → node_at bk n ≡ m → DoesSome (row f m o x n passed br.next)
-    row_does Holds Top x n says at = tt
-    row_does Holds Bottom x n says at = fits 13 op.Absurd _ refl (λ e. close_by op.Absurd e refl (bottom_holds says at))
-    row_does Holds (Name a) x n says at = tt
-    row_does Holds (Not c) x n says at = fits 3 op.Negation _ refl (λ e. extend_by op.Negation _ e refl (not_holds says at))
-    row_does Holds (And c d) x n says at = fits 4 op.Conjunction _ refl (λ e. extend_by op.Conjunction _ e refl (and_holds says at))
-    row_does Holds (Or c d) x n says at = fits 5 op.Disjunction _ refl (λ e. split_by op.Disjunction _ _ e refl (or_holds says at))
-    row_does Holds (All r c) x n says at =
-        fits 7 op.AlongRole _ refl
-        (λ e. passing op.AlongRole x r _ e refl (λ leads. extend_along op.AlongRole _ e (all_holds says at leads)))
-    row_does Holds (Exists r c) x n says at = fits 6 op.Successor _ refl (λ e. extend_by op.Successor _ e refl (some_holds says at))
-    row_does Holds (Typical c) x n says at = fits 8 op.Typical _ refl (λ e. extend_by op.Typical _ e refl (typical_holds says at))
-    row_does Holds Absent x n says at = tt
-    row_does Fails Top x n says at = fits 13 op.Absurd _ refl (λ e. close_by op.Absurd e refl (top_fails says at))
-    row_does Fails Bottom x n says at = tt
-    row_does Fails (Name a) x n says at = tt
-    row_does Fails (Not c) x n says at = fits 3 op.Negation _ refl (λ e. extend_by op.Negation _ e refl (not_fails says at))
-    row_does Fails (And c d) x n says at = fits 5 op.Disjunction _ refl (λ e. split_by op.Disjunction _ _ e refl (and_fails says at))
-    row_does Fails (Or c d) x n says at = fits 4 op.Conjunction _ refl (λ e. extend_by op.Conjunction _ e refl (or_fails says at))
-    row_does Fails (All r c) x n says at = fits 6 op.Successor _ refl (λ e. extend_by op.Successor _ e refl (all_fails says at))
-    row_does Fails (Exists r c) x n says at =
-        fits 7 op.AlongRole _ refl
-        (λ e. passing op.AlongRole x r _ e refl (λ leads. extend_along op.AlongRole _ e (some_fails says at leads)))
-    row_does Fails (Typical c) x n says at = fits 9 op.Atypical _ refl (λ e. split_by op.Atypical _ _ e refl (typical_fails says at))
-    row_does Fails Absent x n says at = tt
-    row_does Bars m x n says at =
-        fits 11 op.AlongBetter _ refl
-        (λ e. passing op.AlongBetter x 16 _ e refl (λ leads. extend_along op.AlongBetter _ e (bars says leads)))
-    row_does Admits m x n says at = fits 10 op.Better _ refl (λ e. extend_by op.Better _ e refl (admits says))
+  clash_does : (f g : Form) (x n : ℕ) → Asks op.Clash → Says br s.a x f n → Says br s.b x g n → denies f g ≡ true → Closes bk br s
+  clash_does Holds Fails x n h p q t = subst (λ v. Closes bk br v) (binary op.Clash h) (holds_and_fails p q)
+  clash_does Bars Admits x n h p q t = subst (λ v. Closes bk br v) (binary op.Clash h) (bars_and_admits p q)
+  clash_does _ _ x n h p q t = absurd (false≢true t)
 
-    clash_does : (f g : Form) (x n : ℕ) → Says br s.a x f n → Says br s.b x g n → o ≡ op.Clash → denies f g ≡ true → Closes bk br s
-    clash_does Holds Holds x n p q e h = absurd (false≢true h)
-    clash_does Holds Fails x n p q e h = subst (λ v. Closes bk br v) (binary op.Clash e) (holds_and_fails p q)
-    clash_does Holds Bars x n p q e h = absurd (false≢true h)
-    clash_does Holds Admits x n p q e h = absurd (false≢true h)
-    clash_does Fails g x n p q e h = absurd (false≢true h)
-    clash_does Bars Holds x n p q e h = absurd (false≢true h)
-    clash_does Bars Fails x n p q e h = absurd (false≢true h)
-    clash_does Bars Bars x n p q e h = absurd (false≢true h)
-    clash_does Bars Admits x n p q e h = subst (λ v. Closes bk br v) (binary op.Clash e) (bars_and_admits p q)
-    clash_does Admits g x n p q e h = absurd (false≢true h)
+  closing : (f : Form) (x n : ℕ) → Asks op.Clash → Says br s.a x f n → denies f other.form && alike other x n ≡ true → Closes bk br s
+  closing f x n h says t =
+      let p = and_parts _ _ t in
+      let q = and_parts _ _ p.1 in
+      let label : other.label ≡ x = eqb-true other.label x q.0 in
+      let node : other.node ≡ n = eqb-true other.node n q.1 in
+      let within : s.b < length br.constraints = ltb-true s.b (length br.constraints) h.here in
+      clash_does f other.form x n h says
+      (subst (λ v. At br.constraints s.b v) (λ i. constraint (label i) other.form (node i)) (stands br.constraints s.b no_constraint within))
+      p.0
 
-    abbrev other : Constraint
-    other = get_or br.constraints s.b no_constraint
+  row_does : (o : Op) (f : Form) (m : Node) (x n : ℕ) → Asks o → Says br s.a x f n → node_at bk n ≡ m → DoesSome (row o f m x n passed other br.next)
+  row_does op.Negation Holds (Not c) x n h says at = extend_by op.Negation _ h refl (not_holds says at)
+  row_does op.Negation Fails (Not c) x n h says at = extend_by op.Negation _ h refl (not_fails says at)
+  row_does op.Conjunction Holds (And c d) x n h says at = extend_by op.Conjunction _ h refl (and_holds says at)
+  row_does op.Conjunction Fails (Or c d) x n h says at = extend_by op.Conjunction _ h refl (or_fails says at)
+  row_does op.Disjunction Holds (Or c d) x n h says at = split_by op.Disjunction _ _ h refl (or_holds says at)
+  row_does op.Disjunction Fails (And c d) x n h says at = split_by op.Disjunction _ _ h refl (and_fails says at)
+  row_does op.Successor Holds (Exists r c) x n h says at = extend_by op.Successor _ h refl (some_holds says at)
+  row_does op.Successor Fails (All r c) x n h says at = extend_by op.Successor _ h refl (all_fails says at)
+  row_does op.AlongRole Holds (All r c) x n h says at = passing op.AlongRole x r _ h refl (λ leads. extend_along op.AlongRole _ h (all_holds says at leads))
+  row_does op.AlongRole Fails (Exists r c) x n h says at = passing op.AlongRole x r _ h refl (λ leads. extend_along op.AlongRole _ h (some_fails says at leads))
+  row_does op.Typical Holds (Typical c) x n h says at = extend_by op.Typical _ h refl (typical_holds says at)
+  row_does op.Atypical Fails (Typical c) x n h says at = split_by op.Atypical _ _ h refl (typical_fails says at)
+  row_does op.Better Admits m x n h says at = extend_by op.Better _ h refl (admits says)
+  row_does op.AlongBetter Bars m x n h says at = passing op.AlongBetter x 16 _ h refl (λ leads. extend_along op.AlongBetter _ h (bars says leads))
+  row_does op.Clash f m x n h says at = where_true _ (Some Closing) (λ t. closing f x n h says t)
+  row_does op.Absurd Holds Bottom x n h says at = close_by op.Absurd h refl (bottom_holds says at)
+  row_does op.Absurd Fails Top x n h says at = close_by op.Absurd h refl (top_fails says at)
+  row_does _ _ _ x n h says at = tt
 
-    closing : (c : Constraint) → At br.constraints s.a c → o ≡ op.Clash → denies c.form other.form && alike other c.label c.node ≡ true → Closes bk br s
-    closing c at e h =
-        let p = and_parts _ _ h in
-        let q = and_parts _ _ p.1 in
-        let label : other.label ≡ c.label = eqb-true other.label c.label q.0 in
-        let node : other.node ≡ c.node = eqb-true other.node c.node q.1 in
-        let within : s.b < length br.constraints = ltb-true s.b (length br.constraints) (there_by op.Clash e) in
-        clash_does c.form other.form c.label c.node at
-        (subst (λ v. At br.constraints s.b v) (λ i. constraint (label i) other.form (node i)) (stands br.constraints s.b no_constraint within))
-        e p.0
+  lived : (e : Entry) → (line_at bk s.a).entry ≡ e → (line_at bk s.a).live ≡ true → Live bk s.a e
+  lived e p h = λ i. record { entry = p i; live = h i }
 
-    expanded_does : (c : Constraint) → At br.constraints s.a c → DoesSome (expanded o c (node_at bk c.node) passed other br.next)
-    expanded_does c at = go (eqb (number_of o) 12) refl
-      where
-        go : (b : Bool) → eqb (number_of o) 12 ≡ b → DoesSome (cond b (cond (denies c.form other.form && alike other c.label c.node) (Some Closing) None) (row c.form (node_at bk c.node) o c.label c.node passed br.next))
-        go true q = where_true _ (Some Closing) (λ h. closing c at (which o op.Clash 12 (eqb-true (number_of o) 12 q) refl) h)
-        go false q = row_does c.form (node_at bk c.node) c.label c.node at refl
-
-    lived : (e : Entry) → (line_at bk s.a).entry ≡ e → (line_at bk s.a).live ≡ true → Live bk s.a e
-    lived e p h = λ i. record { entry = p i; live = h i }
-
-    cited_does : (e : Entry) → (line_at bk s.a).entry ≡ e → (line_at bk s.a).live ≡ true → DoesSome (cited e o s.b)
-    cited_does (Inclusion c d) p h =
-        fits 2 op.Include _ refl
-        (λ e. split_at op.Include _ _ e (inclusion (lived (Inclusion c d) p h) (ltb-true s.b br.next (there_by op.Include e))))
-    cited_does (Fact x c) p h = fits 1 op.Assert _ refl (λ e. extend_by op.Assert _ e refl (fact (lived (Fact x c) p h)))
-    cited_does (RoleFact r x y) p h = fits 1 op.Assert _ refl (λ e. extend_by op.Assert _ e refl (role_fact (lived (RoleFact r x y) p h)))
-    cited_does No-entry p h = tt
+  cited_does : (e : Entry) (o : Op) → Asks o → (line_at bk s.a).entry ≡ e → (line_at bk s.a).live ≡ true → DoesSome (cited e o s.b)
+  cited_does (Inclusion c d) op.Include h p l = split_at op.Include _ _ h (inclusion (lived (Inclusion c d) p l) (ltb-true s.b br.next h.here))
+  cited_does (Fact x c) op.Assert h p l = extend_by op.Assert _ h refl (fact (lived (Fact x c) p l))
+  cited_does (RoleFact r x y) op.Assert h p l = extend_by op.Assert _ h refl (role_fact (lived (RoleFact r x y) p l))
+  cited_does _ _ h p l = tt
 
   module _ (o : Op) (is : s.op ≡ number_of o) (used : stray (operand_of o) s.b ≡ false) where
     entry_does : DoesOk (by_entry bk br o s)
@@ -256,7 +209,8 @@ module _ (bk : Book) (br : Branch) (s : Step) where
         go true t q l p = tt
         go false false q l p = tt
         go false true q false p = tt
-        go false true q true p = fitting (cited (line_at bk s.a).entry o s.b) (cited_does o is used q (line_at bk s.a).entry refl p)
+        go false true q true p =
+            fitting (cited (line_at bk s.a).entry o s.b) (cited_does (line_at bk s.a).entry o (record { is = is; used = used; here = q }) refl p)
 
     constraint_does : DoesOk (by_constraint bk br o s)
     unfolding by_constraint
@@ -265,8 +219,8 @@ module _ (bk : Book) (br : Branch) (s : Step) where
         (λ h.
         let p = and_parts _ _ h in
         let c = get_or br.constraints s.a no_constraint in
-        fitting (expanded o c (node_at bk c.node) (passed o is used p.1) (other o is used p.1) br.next) (expanded_does o is used p.1 c
-        (stands br.constraints s.a no_constraint (ltb-true s.a (length br.constraints) p.0))))
+        fitting (expanded o c (node_at bk c.node) passed other br.next)
+        (row_does o c.form (node_at bk c.node) c.label c.node (record { is = is; used = used; here = p.1 }) (stands br.constraints s.a no_constraint (ltb-true s.a (length br.constraints) p.0)) refl))
 
     either_does : (b : Bool) → DoesOk (cond b (by_entry bk br o s) (by_constraint bk br o s))
     either_does true = entry_does

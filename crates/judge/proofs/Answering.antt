@@ -1,5 +1,5 @@
 -- What refuting answers is what is promised. Assumes nothing.
-use Rattle.std.proofs.Common.{◌≡◌, ℕ, ◌/◌, ◌≤◌, false, List, length, get_or, Ok, Err, Result, sym, refl, ap, ◌∙◌, subst, arith}
+use Rattle.std.proofs.Common.{◌≡◌, ℕ, ◌/◌, ◌≤◌, false, List, length, count_by, get_or, Ok, Err, Result, sym, refl, ap, ◌∙◌, subst, arith}
 use Rattle.logic.specs.Books.{Book}
 use Rattle.logic.specs.Lawful.{WellFormed}
 use Rattle.logic.specs.Limits.{Lengths}
@@ -9,7 +9,7 @@ use Rattle.logic.proofs.Soundness.{soundness, no_model}
 use Rattle.judge.specs.declared.faults.RefuteFault.{RefuteFault}
 use Rattle.judge.specs.declared.faults.RefuteFault.TheVariants.{BadLength}
 use Rattle.judge.specs.declared.used.Used.{Used}
-use Rattle.judge.specs.Members.{set_marks, marks_of}
+use Rattle.judge.specs.Members.{marks_of}
 use Rattle.judge.specs.Progress.{Finished}
 use Rattle.judge.specs.Reasons.{Halted, Reason, by_length, by_steps}
 use Rattle.judge.specs.Refutations.{Refutation, Refuted, RefuteAnswer}
@@ -42,7 +42,7 @@ module _ (bk : Book) (ls : Lengths) (bs : List ℕ) where
         record {
           refutation = r;
           named = λ i. ap (λ v. get_or v i false) m ∙ marks_named bk formed.few_lines (decoded bs) r.tableau r.written i;
-          count = ap set_marks m ∙ marks_counted bk formed.few_lines (decoded bs) r.tableau r.written;
+          count = ap (λ ms. count_by (λ mark. mark) ms) m ∙ marks_counted bk formed.few_lines (decoded bs) r.tableau r.written;
           sound = λ x h. soundness bk formed r.tableau x (subst (NamedTrue x bk) (sym r.written) h);
           no_model = no_model bk formed r.tableau;
         }

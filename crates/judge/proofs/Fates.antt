@@ -13,13 +13,12 @@ use Rattle.judge.specs.declared.effect.Effect.TheVariants.{Adds, AddsTwo, Links,
 use Rattle.judge.specs.declared.faults.RefuteFault.{RefuteFault}
 use Rattle.judge.specs.declared.faults.RefuteFault.TheVariants as fault
 use Rattle.judge.specs.declared.step_fault.StepFault.{StepFault}
-use Rattle.judge.specs.declared.step_fault.StepFault.TheVariants.{Malformed, NeverEntered, NotThere, Struck, Misfit, Full}
-use Rattle.judge.specs.Faults.{fault_at}
+use Rattle.judge.specs.declared.step_fault.StepFault.TheVariants.{Full}
 use Rattle.judge.specs.Decisions.{decision}
 use Rattle.judge.specs.Progress.{Room, Underway, begun, extended, divided, turned, Finished, ended}
-use Rattle.judge.specs.Reasons.{NoRoom, branch_full, split_full, Stopped, Halted}
+use Rattle.judge.specs.Reasons.{NoRoom, branch_full, split_full, Because, Halted}
 use Rattle.judge.proofs.Agreeing.{extension, closes_decides, splits_decides, extends_decides}
-use Rattle.judge.proofs.Sorting.{Because, refuses}
+use Rattle.judge.proofs.Sorting.{refuses}
 
 -- a branch that is worked with the second branches of the pending splits, or all is closed
 data Status : Type 0 where
@@ -103,14 +102,14 @@ module _ (bk : Book) (ls : Lengths) where
     crowded (split_full {left = l} {right = r} k n) = by_splits l r k ∙ cond-false _ _ _ (roomy_false (length (r ∷ ps)) l n)
 
     -- a step with a reason against it is refused for it
-    refused : (f : StepFault) → Because bk br s ls (length ps) f → stepped s br ps ≡ Err f
+    refused : (f : StepFault) → Because bk ls f br (length ps) s → stepped s br ps ≡ Err f
     refused f b =
         ⊎_elim (λ h. ap (λ v. tried v br ps) h) (λ h. crowded h.1 ∙ ap Err (sym h.0))
         (refuses bk br s ls (length ps) f b)
 
   abbrev carried : Result Status StepFault → ℕ → (Status → Option RefuteFault) → Option RefuteFault
   carried (Ok σ) i k = k σ
-  carried (Err f) i k = Some (fault_at f i)
+  carried (Err f) i k = Some (fault.AtStep i f)
 
   -- the fault of the steps from number i on
   abbrev fate : Status → ℕ → List Step → Option RefuteFault
@@ -154,22 +153,14 @@ module _ (bk : Book) (ls : Lengths) where
   front : (ss : List Step) (i : ℕ) → i < length ss → length (take i ss) ≡ i
   front ss i h = length-take-le i ss (omega arith)
 
-  stopped_fate : (ss : List Step) (i : ℕ) (f : StepFault) → Stopped bk ls ss i (λ br k s. Because bk br s ls k f) → fate_of ss ≡ Some (fault_at f i)
-  stopped_fate ss i f h =
-      ap fate_of (apart ss i h.current h.here)
-      ∙ comes h.underway (h.current ∷ drop (i + 1) ss)
-      ∙ ap (λ q. carried q (length (take i ss)) (λ τ. fate τ (length (take i ss) + 1) (drop (i + 1) ss))) (refused h.current h.branch h.pending f h.because)
-      ∙ ap (λ n. Some (fault_at f n)) (front ss i h.here.within)
-
   -- a reason decides the fate
   halted_fate : (ss : List Step) (f : RefuteFault) → Halted bk ls ss f → fate_of ss ≡ Some f
   halted_fate ss (fault.BadLength n) h = absurd h
-  halted_fate ss (fault.Malformed i) h = stopped_fate ss i Malformed h
-  halted_fate ss (fault.NeverEntered i) h = stopped_fate ss i NeverEntered h
-  halted_fate ss (fault.NotThere i) h = stopped_fate ss i NotThere h
-  halted_fate ss (fault.Struck i) h = stopped_fate ss i Struck h
-  halted_fate ss (fault.Misfit i) h = stopped_fate ss i Misfit h
-  halted_fate ss (fault.Full i) h = stopped_fate ss i Full h
+  halted_fate ss (fault.AtStep i f) h =
+      ap fate_of (apart ss i h.current h.here)
+      ∙ comes h.underway (h.current ∷ drop (i + 1) ss)
+      ∙ ap (λ q. carried q (length (take i ss)) (λ τ. fate τ (length (take i ss) + 1) (drop (i + 1) ss))) (refused h.current h.branch h.pending f h.because)
+      ∙ ap (λ n. Some (fault.AtStep n f)) (front ss i h.here.within)
   halted_fate ss (fault.AfterClosing i) h =
       let s = get_or ss i (record { op = 0; a = 0; b = 0 }) in
       ap fate_of (sym (take-append-drop i ss) ∙ ap (λ l. take i ss ++ l) (drop_more ss i (record { op = 0; a = 0; b = 0 }) h.0))

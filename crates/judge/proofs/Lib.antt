@@ -1,3 +1,5 @@
+-- lists of one value
+pub mod Replicated
 -- lists that are filled with sets
 pub mod ShowFill
 -- entries that fail
@@ -32,5 +34,5 @@ pub mod Showing
 pub mod Parting
 -- lists in use and blanks
 pub mod Listing
--- counting marks
+-- the marks that steps set
 pub mod Marks

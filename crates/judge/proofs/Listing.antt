@@ -1,8 +1,8 @@
 -- Lists of records in use and blanks: more of them, cut back, blanked. Assumes nothing.
-use Rattle.std.proofs.Common.{◌≡◌, ℕ, ◌+◌, ◌-◌, ◌<◌, ◌≤◌, true, cond, ◌&&◌, ltb, leb, ◌≢◌, List, [], ◌++◌, length, get_or, take, set, replicate, sym, refl, ap, ◌∙◌, ⊎_elim, arith}
-use Rattle.std.proofs.lemmas.List.{length-append, length-take-le, length-replicate, get_or_append_left, get_or-append_right, get_or_past, get_or-replicate, get_or-set_same, get_or-set_other, get_or-take, ext_get_or}
-use Rattle.std.proofs.lemmas.Bool.{cases_lt, cases_Bool, cases_order, cond-true, cond-false, and_from, and_left, and_right, le-leb, lt-ltb, le-ltb, lt-leb}
-use Rattle.judge.specs.Lists.{Appended, Blanked, Listed}
+use Rattle.std.proofs.Common.{◌≡◌, ℕ, ◌+◌, ◌-◌, ◌<◌, ◌≤◌, cond, ◌&&◌, ltb, leb, List, [], ◌++◌, length, get_or, take, drop, min, replicate, sym, refl, ap, ◌∙◌, subst, ⊎_elim, arith}
+use Rattle.std.proofs.lemmas.List.{length-append, length-take-le, length-drop, drop-drop, length-replicate, get_or_append_left, get_or-append_right, get_or_past, get_or-replicate, get_or-take, get_or-drop}
+use Rattle.std.proofs.lemmas.Bool.{cases_lt, cases_Bool, cond-true, cond-false, and_from, and_left, and_right, le-leb, lt-ltb, le-ltb, lt-leb}
+use Rattle.judge.specs.Lists.{Blanked, Listed}
 
 module _ {A : Type 0} (z : A) where
   -- from place a up to place b the list m has what f says, and else what l has
@@ -18,28 +18,30 @@ module _ {A : Type 0} (z : A) where
   above : (a b i : ℕ) (y x : A) → b ≤ i → cond (leb a i && ltb i b) y x ≡ x
   above a b i y x h = cond-false _ y x (and_right _ _ (le-ltb i b h))
 
-  pub put_none : (f : ℕ → A) (a : ℕ) (l : List A) → Put f a a l l
-  put_none f a l i =
-      ⊎_elim (λ (h : i < a). sym (below a a i (f i) (get_or l i z) h)) (λ (h : a ≤ i). sym (above a a i (f i) (get_or l i z) h)) (cases_lt i a)
-
-  pub put_more : (f : ℕ → A) (a b : ℕ) (x : A) (l m : List A) → x ≡ f b → a ≤ b → b < length m → Put f a b l m → Put f a (b + 1) l (set m b x)
-  put_more f a b x l m q h k e i =
-      ⊎_elim
-      (λ (p : i ≡ b).
-      ap (λ j. get_or (set m b x) j z) p ∙ get_or-set_same m b x z k ∙ q ∙ ap f (sym p)
-      ∙ sym (inside a (b + 1) i (f i) (get_or l i z) (omega arith) (omega arith)))
-      (⊎_elim
-      (λ (p : i < b).
-      let ne : i ≢ b = omega arith in
-      get_or-set_other m b i x z ne ∙ e i
+  -- after a write of the records xs at place a
+  pub put_mid_is : (a : ℕ) (xs l m : List A) → a + length xs ≤ length l → m ≡ take a l ++ (xs ++ drop (a + length xs) l) → Put (λ k. get_or xs (k - a) z) a (a + length xs) l m
+  put_mid_is a xs l m h e i =
+      let n : length (take a l) ≡ a = length-take-le a l (omega arith) in
+      ap (λ v. get_or v i z) e
       ∙ ⊎_elim
-      (λ (r : i < a). below a b i (f i) (get_or l i z) r ∙ sym (below a (b + 1) i (f i) (get_or l i z) r))
-      (λ (r : a ≤ i). inside a b i (f i) (get_or l i z) r p ∙ sym (inside a (b + 1) i (f i) (get_or l i z) r (omega arith)))
-      (cases_lt i a))
-      (λ (p : b < i).
-      let ne : i ≢ b = omega arith in
-      get_or-set_other m b i x z ne ∙ e i ∙ above a b i (f i) (get_or l i z) (omega arith) ∙ sym (above a (b + 1) i (f i) (get_or l i z) (omega arith))))
-      (cases_order i b)
+      (λ (p : i < a).
+      get_or_append_left (take a l) (xs ++ drop (a + length xs) l) z i (omega arith) ∙ get_or-take a l i z p ∙ sym (below a (a + length xs) i (get_or xs (i - a) z) (get_or l i z) p))
+      (λ (p : a ≤ i).
+      get_or-append_right (take a l) (xs ++ drop (a + length xs) l) a i z n p
+      ∙ ⊎_elim
+      (λ (q : i < a + length xs).
+      get_or_append_left xs (drop (a + length xs) l) z (i - a) (omega arith) ∙ sym (inside a (a + length xs) i (get_or xs (i - a) z) (get_or l i z) p q))
+      (λ (q : a + length xs ≤ i).
+      get_or-append_right xs (drop (a + length xs) l) (length xs) (i - a) z refl (omega arith)
+      ∙ get_or-drop (a + length xs) l (i - a - length xs) z
+      ∙ ap (λ k. get_or l k z) (omega arith)
+      ∙ sym (above a (a + length xs) i (get_or xs (i - a) z) (get_or l i z) q))
+      (cases_lt i (a + length xs)))
+      (cases_lt i a)
+
+  length_mid : (a : ℕ) (xs l m : List A) → a + length xs ≤ length l → m ≡ take a l ++ (xs ++ drop (a + length xs) l) → length m ≡ length l
+  length_mid a xs l m h e =
+      omega (arith, ap length e, length-append (take a l) (xs ++ drop (a + length xs) l), length-append xs (drop (a + length xs) l), length-take-le a l (omega arith), length-drop (a + length xs) l)
 
   -- past the end of a list everything is blank
   pub blanked_end : (a b c : ℕ) (l m : List A) → length m ≡ length l → ((i : ℕ) → i < length l → a ≤ i → (i < b → i < c) × (i < c → i < b)) → Blanked z a b l m → Blanked z a c l m
@@ -62,25 +64,43 @@ module _ {A : Type 0} (z : A) where
       ∙ sym (⊎_elim (λ t. cond-true _ z (get_or l i z) t) (λ t. cond-false _ z (get_or l i z) t ∙ get_or_past l i z h) (cases_Bool (leb a i && ltb i c))))
       (cases_lt i (length l))
 
-  pub blanked_all : (l m : List A) → length m ≡ length l → Blanked z 0 (length l) l m → m ≡ replicate (length l) z
-  blanked_all l m n e =
-      ext_get_or z m (replicate (length l) z) (n ∙ sym (length-replicate (length l) z))
-      (λ i h. e i ∙ inside 0 (length l) i z (get_or l i z) (omega arith) (omega arith) ∙ sym (get_or-replicate (length l) i z z (omega arith)))
+  -- every record of a blank list is blank
+  blank_at : (n i : ℕ) → get_or (replicate n z) i z ≡ z
+  blank_at n i =
+      ⊎_elim (λ (h : i < n). get_or-replicate n i z z h) (λ (h : n ≤ i). get_or_past (replicate n z) i z (omega (arith, length-replicate n z))) (cases_lt i n)
+
+  -- after the part from a up to b is blanked, and c is where the list or the part ends
+  pub blanked_mid : (a b c : ℕ) (l ys : List A) → a ≤ b → b ≡ min c (length l) → ys ≡ replicate (length (take (b - a) (drop a l))) z → Blanked z a c l (take a l ++ (ys ++ drop (b - a) (drop a l)))
+  blanked_mid a b c l ys h k e =
+      let m = take a l ++ (ys ++ drop (b - a) (drop a l)) in
+      let blanks = replicate (b - a) z in
+      let size : length (take (b - a) (drop a l)) ≡ b - a = length-take-le (b - a) (drop a l) (omega (arith, length-drop a l)) in
+      let part : ys ≡ blanks = e ∙ ap (λ n. replicate n z) size in
+      let n : a + length blanks ≡ b = omega (arith, length-replicate (b - a) z) in
+      let rest : drop (b - a) (drop a l) ≡ drop (a + length blanks) l = drop-drop (b - a) a l ∙ ap (λ v. drop v l) (omega arith) in
+      let is : m ≡ take a l ++ (blanks ++ drop (a + length blanks) l) = λ i. take a l ++ (part i ++ rest i) in
+      let put : Blanked z a b l m = λ i.
+      subst (λ v. get_or m i z ≡ cond (leb a i && ltb i v) z (get_or l i z)) n
+      (put_mid_is a blanks l m (omega arith) is i ∙ ap (λ v. cond (leb a i && ltb i (a + length blanks)) v (get_or l i z)) (blank_at (b - a) (i - a))) in
+      blanked_end a b c l m (length_mid a blanks l m (omega arith) is)
+      (λ i p q. ((λ r. omega arith), (λ r. omega arith))) put
 
   -- a blank list has nothing in use
   pub listed_none : (l : List A) → l ≡ replicate (length l) z → Listed z l 0 []
   listed_none l e =
       record {
-        held = λ i. ap (λ r. get_or r i z) e ∙ ⊎_elim (λ (h : i < length l). get_or-replicate (length l) i z z h) (λ (h : length l ≤ i). get_or_past (replicate (length l) z) i z (omega (arith, length-replicate (length l) z))) (cases_lt i (length l));
+        held = λ i. ap (λ r. get_or r i z) e ∙ blank_at (length l) i;
         count = refl;
         fits = omega arith;
       }
 
   -- more records in use
-  pub listed_append : (l m : List A) (k : ℕ) (xs ys : List A) → k + length ys ≤ length l → length m ≡ length l → Appended true z k ys l m → Listed z l k xs → Listed z m (k + length ys) (xs ++ ys)
-  listed_append l m k xs ys h n e s =
+  pub listed_append : (l m : List A) (k : ℕ) (xs ys : List A) → k + length ys ≤ length l → m ≡ take k l ++ (ys ++ drop (k + length ys) l) → Listed z l k xs → Listed z m (k + length ys) (xs ++ ys)
+  listed_append l m k xs ys h was s =
+      let e = put_mid_is k ys l m h was in
       let c : length xs ≡ k = s.count in
       let p : length (xs ++ ys) ≡ length xs + length ys = length-append xs ys in
+      let n : length m ≡ length l = length_mid k ys l m h was in
       record {
         held = λ i.
             ⊎_elim

@@ -1,15 +1,16 @@
 -- The marks of steps are the entries that they name. Assumes nothing.
-use Rattle.std.proofs.Common.{◌≡◌, ℕ, zero, suc, ◌+◌, ◌<◌, ◌≤◌, Bool, true, false, cond, ◌&&◌, ◌||◌, eqb, List, [], ◌∷◌, length, get_or, take, set, replicate, sym, refl, ap, ◌∙◌, subst, ⊎_elim, add_comm, add-one, arith}
+use Rattle.std.proofs.Common.{◌≡◌, ℕ, zero, suc, ◌+◌, ◌<◌, ◌≤◌, Bool, true, false, cond, ◌&&◌, ◌||◌, eqb, List, [], ◌∷◌, length, count_by, get_or, take, set, replicate, sym, refl, ap, ◌∙◌, subst, ⊎_elim, add_comm, add-one, arith}
+use Rattle.std.specs.List.{fold}
 use Rattle.std.proofs.lemmas.List.{get_or-set_same, get_or-set_other, get_or_past, get_or-replicate, length-set, take_all}
+use Rattle.std.proofs.lemmas.List.Sums.{sum_by_more}
 use Rattle.std.proofs.lemmas.Bool.{cases_eq, cases_lt, cases_Bool, eq-eqb, ne_eqb}
 use Rattle.logic.specs.declared.tableau.Step.{Step}
 use Rattle.logic.specs.Books.{Book}
 use Rattle.logic.specs.Branches.{start}
 use Rattle.logic.specs.Tableaux.{Closed, writing, names, named_below, used}
 use Rattle.logic.proofs.NamedLive.{named_live}
-use Rattle.judge.specs.Members.{set_marks, noted, noted_all, marks_of}
+use Rattle.judge.specs.Members.{noted, marks_of}
 use Rattle.judge.proofs.Agreeing.{live_within}
-use Rattle.judge.proofs.Marks.{marks_more, mark_is}
 
 -- one mark more
 set_mark : (xs : List Bool) (a i : ℕ) → i < length xs → get_or (set xs a true) i false ≡ (eqb a i || get_or xs i false)
@@ -33,7 +34,7 @@ noted_length xs s = go (eqb s.op 1 || eqb s.op 2)
     go true = length-set xs s.a true
     go false = refl
 
-all_length : (ss : List Step) (xs : List Bool) → length (noted_all xs ss) ≡ length xs
+all_length : (ss : List Step) (xs : List Bool) → length (fold noted xs ss) ≡ length xs
 all_length [] xs = refl
 all_length (s ∷ ss) xs = all_length ss (noted xs s) ∙ noted_length xs s
 
@@ -47,7 +48,7 @@ or_false : (b : Bool) → (b || false) ≡ b
 or_false true = refl
 or_false false = refl
 
-all_at : (ss : List Step) (xs : List Bool) (i : ℕ) → i < length xs → get_or (noted_all xs ss) i false ≡ (get_or xs i false || names ss i)
+all_at : (ss : List Step) (xs : List Bool) (i : ℕ) → i < length xs → get_or (fold noted xs ss) i false ≡ (get_or xs i false || names ss i)
 all_at [] xs i h = sym (or_false (get_or xs i false))
 all_at (s ∷ ss) xs i h =
     let l : length (noted xs s) ≡ length xs = noted_length xs s in
@@ -57,12 +58,12 @@ all_at (s ∷ ss) xs i h =
 
 -- marks that are the names, counted
 module _ (xs : List Bool) (ss : List Step) (same : (i : ℕ) → i < length xs → get_or xs i false ≡ names ss i) where
-  marks_below : (k : ℕ) → k ≤ length xs → set_marks (take k xs) ≡ named_below k ss
+  marks_below : (k : ℕ) → k ≤ length xs → count_by (λ mark. mark) (take k xs) ≡ named_below k ss
   marks_below zero h = refl
   marks_below (suc k) h =
-      ap (λ n. set_marks (take n xs)) (sym (add-one k))
-      ∙ marks_more xs k (omega arith)
-      ∙ (λ i. marks_below k (omega arith) i + mark_is (same k (omega arith) i) i)
+      ap (λ n. count_by (λ mark. mark) (take n xs)) (sym (add-one k))
+      ∙ sum_by_more (λ mark. cond mark 1 0) xs k false (omega arith)
+      ∙ (λ i. marks_below k (omega arith) i + cond (same k (omega arith) i) 1 0)
       ∙ add_comm (named_below k ss) (cond (names ss k) 1 0)
 
 module _ (bk : Book) (few : length bk.lines ≤ 256) (ss : List Step) (t : Closed bk start) (w : writing t ≡ ss) where
@@ -91,7 +92,7 @@ module _ (bk : Book) (few : length bk.lines ≤ 256) (ss : List Step) (t : Close
       (λ (h : length (marks_of ss) ≤ i). get_or_past (marks_of ss) i false h ∙ sym (none_past i (let e = long in omega arith)))
       (cases_lt i (length (marks_of ss)))
 
-  pub marks_counted : set_marks (marks_of ss) ≡ used ss
+  pub marks_counted : count_by (λ mark. mark) (marks_of ss) ≡ used ss
   marks_counted =
-      ap set_marks (sym (take_all 256 (marks_of ss) (let l = long in omega arith)))
+      ap (λ ms. count_by (λ mark. mark) ms) (sym (take_all 256 (marks_of ss) (let l = long in omega arith)))
       ∙ marks_below (marks_of ss) ss within 256 (let l = long in omega arith)

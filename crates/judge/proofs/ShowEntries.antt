@@ -1,33 +1,38 @@
--- Live entries that fail, and those that do not. Assumes nothing.
-use Rattle.std.proofs.Common.{◌≡◌, ℕ, ◌<◌, Bool, true, false, not, length, Decides, MatchBool, sym, refl, ap, ◌∙◌, subst, inl, inr}
-use Rattle.std.proofs.lemmas.Bool.Decides.{not_from_Decides}
-use Rattle.std.proofs.lemmas.Bool.{cases_lt, false≢true}
-use Rattle.std.proofs.lemmas.List.{get_or_past}
+-- Live entries that are false, and the lowest of them. Assumes nothing.
+use Rattle.std.proofs.Common.{◌≡◌, ℕ, ◌<◌, ◌≤◌, Bool, true, false, List, length, Some, None, MatchOption, Option, ap, subst, arith}
 use Rattle.logic.specs.declared.records.Entry.{Entry}
 use Rattle.logic.specs.declared.records.Line.{Line}
-use Rattle.logic.specs.Books.{Book, line_at, no_line}
+use Rattle.logic.specs.Books.{Book, line_at}
 use Rattle.logic.specs.Models.{Model}
 use Rattle.logic.specs.Satisfaction.{Live, HoldsIn}
+use Rattle.models.specs.Interpretations.{Interpretation}
+use Rattle.models.specs.Meanings.{meant}
+use Rattle.judge.specs.Shows.{TellsFailing, FindsFalse}
+use Rattle.judge.proofs.Agreeing.{live_within}
+use Rattle.judge.proofs.ShowFill.{sets_everywhere}
 
--- a live entry fails exactly where it is not true
-pub fails_live : {P : Type 0} (live test : Bool) → live ≡ true → Decides test P → MatchBool (not test) ((live ≡ true) × (P → ⊥)) (live ≡ true → P)
-fails_live live true l d = λ _. d.0 refl
-fails_live live false l d = (l, not_from_Decides false d refl)
+-- what is told of a line is true of the live entry there
+told_true : (m : Model) (bk : Book) (k : ℕ) (e : Entry) → Live bk k e → ((line_at bk k).live ≡ true → HoldsIn m bk (line_at bk k).entry) → HoldsIn m bk e
+told_true m bk k e live h = subst (λ (l : Line). HoldsIn m bk l.entry) live (h (ap (λ (l : Line). l.live) live))
 
--- a live entry is there
-pub live_within : (bk : Book) (i : ℕ) (e : Entry) → Live bk i e → i < length bk.lines
-live_within bk i e live = elim (cases_lt i (length bk.lines)) [
-  | inl l ↦ l
-  | inr l ↦ absurd (false≢true (ap (λ (k : Line). k.live) (sym (get_or_past bk.lines i no_line l) ∙ live)))
-]
+module _ (bk : Book) (i : Interpretation) (list : List ℕ) where
+  -- what a test of entry k tells
+  abbrev pub Told : Bool → ℕ → Type 0
+  Told test k = TellsFailing i list (line_at bk k) test
 
-module _ (m : Model) (bk : Book) (i : ℕ) (l : Line) (read : l ≡ line_at bk i) where
-  -- the line that is read is live, so the entry is
-  pub live_read : l.live ≡ true → Live bk i l.entry
-  live_read h = sym read ∙ (λ t. record { entry = l.entry; live = h t })
-
-  -- a live entry at the place is the one that is read
-  pub true_read : (l.live ≡ true → HoldsIn m bk l.entry) → (e : Entry) → Live bk i e → HoldsIn m bk e
-  true_read h e live =
-      let is = read ∙ live in
-      subst (λ (k : Line). HoldsIn m bk k.entry) is (h (ap (λ (k : Line). k.live) is))
+  -- the first entry that the test picks out is the lowest live entry that is false
+  pub finds : (n : ℕ) (r : Option ℕ) → n ≡ length bk.lines → MatchOption r ((k : ℕ) → 0 ≤ k → k < n → Told false k) (λ j. (0 ≤ j) × (j < n) × Told true j × ((k : ℕ) → 0 ≤ k → k < j → Told false k)) → FindsFalse bk i list r
+  finds n None e none o f s =
+      let m = meant i o f in
+      let all = sets_everywhere m bk list s in
+      λ j x live. let l = live_within bk j x live in told_true m bk j x live ((none j (omega arith) (omega arith)).tells o f bk all)
+  finds n (Some k) e found o f s =
+      let m = meant i o f in
+      let all = sets_everywhere m bk list s in
+      let told = found.2.tells o f bk all in
+      record {
+        entry = (line_at bk k).entry;
+        live = λ t. record { entry = (line_at bk k).entry; live = told.0 t };
+        false_here = told.1;
+        true_before = λ j x before live. told_true m bk j x live ((found.3 j (omega arith) before).tells o f bk all);
+      }

@@ -10,9 +10,10 @@ use Rattle.orders.specs.Masks.{Preference}
 use Rattle.models.specs.Interpretations.{Interpretation, said}
 use Rattle.models.specs.Fields.{Valid, LowestBad}
 use Rattle.models.specs.Meanings.{Fits, meant}
+use Rattle.models.specs.declared.faults.ViewFault.TheVariants.{BadLength, BadField}
 use Rattle.models.specs.Answers.{Whole}
 use Rattle.judge.specs.declared.show_faults.ShowFault.{ShowFault}
-use Rattle.judge.specs.declared.show_faults.ShowFault.TheVariants.{BadLength, BadField, OrderSize, ListTooShort, EntryFails}
+use Rattle.judge.specs.declared.show_faults.ShowFault.TheVariants.{View, OrderSize, Fill, EntryFails}
 use Rattle.judge.specs.Shows.{LowestFalse, Readable, ShowAnswer, Exact, ShowsModels, ShowPromise}
 
 -- two lowest bad fields, and two lowest false entries, are one
@@ -31,52 +32,52 @@ same_entry m bk k n b c = elim (cases_order n k) [
 ]
 
 module _ (bk : Book) (bs : List ℕ) (o : Preference) (list : List ℕ) where
-  by_length : (r : Result ℕ ShowFault) → ShowAnswer bk bs o list r → (Whole bs → ⊥) → r ≡ Err (BadLength (length bs))
+  by_length : (r : Result ℕ ShowFault) → ShowAnswer bk bs o list r → (Whole bs → ⊥) → r ≡ Err (View (BadLength (length bs)))
   by_length (Ok n) h short = absurd (short h.0.0)
-  by_length (Err (BadLength n)) h short = ap (λ k. Err (BadLength k)) h.2
-  by_length (Err (BadField n)) h short = absurd (short h.0)
+  by_length (Err (View (BadLength n))) h short = ap (λ k. Err (View (BadLength k))) h.0.2
+  by_length (Err (View (BadField n))) h short = absurd (short h.0.0)
   by_length (Err (OrderSize n)) h short = absurd (short h.0)
-  by_length (Err (ListTooShort n)) h short = absurd (short h.0.0)
+  by_length (Err (Fill n)) h short = absurd (short h.0.0)
   by_length (Err (EntryFails n)) h short = absurd (short h.0.0)
 
-  by_field : (r : Result ℕ ShowFault) → ShowAnswer bk bs o list r → (k : ℕ) → Whole bs → LowestBad (said bs) k → r ≡ Err (BadField k)
+  by_field : (r : Result ℕ ShowFault) → ShowAnswer bk bs o list r → (k : ℕ) → Whole bs → LowestBad (said bs) k → r ≡ Err (View (BadField k))
   by_field (Ok n) h k whole b = absurd (b.bad (h.0.1.valid b.field))
-  by_field (Err (BadLength n)) h k whole b = absurd (h.0 whole)
-  by_field (Err (BadField n)) h k whole b = ap (λ k. Err (BadField k)) (same_field (said bs) k n b h.1)
+  by_field (Err (View (BadLength n))) h k whole b = absurd (h.0.0 whole)
+  by_field (Err (View (BadField n))) h k whole b = ap (λ k. Err (View (BadField k))) (same_field (said bs) k n b h.0.2)
   by_field (Err (OrderSize n)) h k whole b = absurd (b.bad (h.1 b.field))
-  by_field (Err (ListTooShort n)) h k whole b = absurd (b.bad (h.0.1.valid b.field))
+  by_field (Err (Fill n)) h k whole b = absurd (b.bad (h.0.1.valid b.field))
   by_field (Err (EntryFails n)) h k whole b = absurd (b.bad (h.0.1.valid b.field))
 
   by_size : (r : Result ℕ ShowFault) → ShowAnswer bk bs o list r → Whole bs → Valid (said bs) → (o.size ≡ (said bs).size → ⊥) → r ≡ Err (OrderSize o.size)
   by_size (Ok n) h whole valid other = absurd (other h.0.1.sized)
-  by_size (Err (BadLength n)) h whole valid other = absurd (h.0 whole)
-  by_size (Err (BadField n)) h whole valid other = absurd (h.1.bad (valid h.1.field))
+  by_size (Err (View (BadLength n))) h whole valid other = absurd (h.0.0 whole)
+  by_size (Err (View (BadField n))) h whole valid other = absurd (h.0.2.bad (valid h.0.2.field))
   by_size (Err (OrderSize n)) h whole valid other = ap (λ k. Err (OrderSize k)) h.4
-  by_size (Err (ListTooShort n)) h whole valid other = absurd (other h.0.1.sized)
+  by_size (Err (Fill n)) h whole valid other = absurd (other h.0.1.sized)
   by_size (Err (EntryFails n)) h whole valid other = absurd (other h.0.1.sized)
 
-  by_list : (r : Result ℕ ShowFault) → ShowAnswer bk bs o list r → Readable bs o → length list < length bk.nodes → r ≡ Err (ListTooShort (length list))
+  by_list : (r : Result ℕ ShowFault) → ShowAnswer bk bs o list r → Readable bs o → length list < length bk.nodes → r ≡ Err (Fill (record { 0 = length list }))
   by_list (Ok n) h f l = absurd (omega (arith, h.1))
-  by_list (Err (BadLength n)) h f l = absurd (h.0 f.0)
-  by_list (Err (BadField n)) h f l = absurd (h.1.bad (f.1.valid h.1.field))
+  by_list (Err (View (BadLength n))) h f l = absurd (h.0.0 f.0)
+  by_list (Err (View (BadField n))) h f l = absurd (h.0.2.bad (f.1.valid h.0.2.field))
   by_list (Err (OrderSize n)) h f l = absurd (h.2 f.1.sized)
-  by_list (Err (ListTooShort n)) h f l = ap (λ k. Err (ListTooShort k)) h.3
+  by_list (Err (Fill n)) h f l = ap (λ k. Err (Fill (record { 0 = k }))) h.3
   by_list (Err (EntryFails n)) h f l = absurd (omega (arith, h.1))
 
   by_entry : (r : Result ℕ ShowFault) → ShowAnswer bk bs o list r → (i : ℕ) → Whole bs → (f : Fits (said bs) o) → length bk.nodes ≤ length list → LowestFalse (meant (said bs) o f) bk i → r ≡ Err (EntryFails i)
   by_entry (Ok n) h i whole f l w = absurd (w.false_here ((h.3 f).0 i w.entry w.live))
-  by_entry (Err (BadLength n)) h i whole f l w = absurd (h.0 whole)
-  by_entry (Err (BadField n)) h i whole f l w = absurd (h.1.bad (f.valid h.1.field))
+  by_entry (Err (View (BadLength n))) h i whole f l w = absurd (h.0.0 whole)
+  by_entry (Err (View (BadField n))) h i whole f l w = absurd (h.0.2.bad (f.valid h.0.2.field))
   by_entry (Err (OrderSize n)) h i whole f l w = absurd (h.2 f.sized)
-  by_entry (Err (ListTooShort n)) h i whole f l w = absurd (omega (arith, h.1))
+  by_entry (Err (Fill n)) h i whole f l w = absurd (omega (arith, h.1))
   by_entry (Err (EntryFails n)) h i whole f l w = ap (λ k. Err (EntryFails k)) (same_entry (meant (said bs) o f) bk i n w (h.3 f).0)
 
   by_model : (r : Result ℕ ShowFault) → ShowAnswer bk bs o list r → Whole bs → (f : Fits (said bs) o) → length bk.nodes ≤ length list → Satisfies (meant (said bs) o f) bk → r ≡ Ok (said bs).size
   by_model (Ok n) h whole f l s = ap Ok h.2
-  by_model (Err (BadLength n)) h whole f l s = absurd (h.0 whole)
-  by_model (Err (BadField n)) h whole f l s = absurd (h.1.bad (f.valid h.1.field))
+  by_model (Err (View (BadLength n))) h whole f l s = absurd (h.0.0 whole)
+  by_model (Err (View (BadField n))) h whole f l s = absurd (h.0.2.bad (f.valid h.0.2.field))
   by_model (Err (OrderSize n)) h whole f l s = absurd (h.2 f.sized)
-  by_model (Err (ListTooShort n)) h whole f l s = absurd (omega (arith, h.1))
+  by_model (Err (Fill n)) h whole f l s = absurd (omega (arith, h.1))
   by_model (Err (EntryFails n)) h whole f l s = let w = (h.3 f).0 in absurd (w.false_here (s n w.entry w.live))
 
   exact : (r : Result ℕ ShowFault) → ShowAnswer bk bs o list r → Exact bk bs o (length list) r

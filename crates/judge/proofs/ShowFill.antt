@@ -1,5 +1,5 @@
 -- A list that is filled bottom up with the sets of nodes. Assumes nothing.
-use Rattle.std.proofs.Common.{◌≡◌, ℕ, zero, suc, ◌+◌, ◌<◌, ◌≤◌, ◌≢◌, List, [], ◌∷◌, ◌++◌, length, get_or, take, set, replicate, sym, refl, ap, ◌∙◌, subst, inl, inr, arith}
+use Rattle.std.proofs.Common.{◌≡◌, ℕ, ◌+◌, ◌<◌, ◌≤◌, ◌≢◌, List, [], ◌∷◌, ◌++◌, length, get_or, take, set, replicate, sym, ap, ◌∙◌, subst, inl, inr, arith}
 use Rattle.std.proofs.lemmas.List.{get_or-set_same, get_or-set_other, get_or_past, get_or_push, get_or_append_left, length_push, length-take-le, take_more, take_all}
 use Rattle.std.proofs.lemmas.Bool.{cases_eq, cases_lt}
 use Rattle.logic.specs.declared.records.Node.TheVariants.{Absent}
@@ -13,15 +13,11 @@ use Rattle.models.specs.Meanings.{Fits, meant}
 use Rattle.models.specs.Extensions.{Extension, HaveSets, SetOfNode}
 use Rattle.models.proofs.ConceptSets.{empty_set}
 use Rattle.judge.specs.NodeSets.{Zeros, Sets}
+use Rattle.judge.proofs.Replicated.{replicated}
 
 -- a list that is blank has only zeros
 pub blank_zeros : (list : List ℕ) (n : ℕ) → list ≡ replicate n 0 → Zeros list
-blank_zeros list n e i = ap (λ (ss : List ℕ). get_or ss i 0) e ∙ zeros n i
-  where
-    zeros : (n i : ℕ) → get_or {A = ℕ} (replicate n 0) i 0 ≡ 0
-    zeros zero i = refl
-    zeros (suc n) zero = refl
-    zeros (suc n) (suc i) = zeros n i
+blank_zeros list n e i = ap (λ (ss : List ℕ). get_or ss i 0) e ∙ replicated 0 n i
 
 -- one concept more leaves what stands at the other places
 of_push_other : (cs : List Concept) (c : Concept) (j : ℕ) → j ≢ length cs → of (cs ++ c ∷ []) j ≡ of cs j

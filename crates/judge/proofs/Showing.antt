@@ -1,19 +1,20 @@
 -- The working lists show where an effect goes. Assumes nothing.
-use Rattle.std.proofs.Common.{◌≡◌, ℕ, ◌+◌, ◌-◌, ◌<◌, ◌≤◌, Bool, true, false, leb, List, [], ◌∷◌, ◌++◌, map, reverse, length, get_or, take, Some, Ok, sym, refl, ap, ◌∙◌, subst, add-zero, arith}
+use Rattle.std.proofs.Common.{◌≡◌, ℕ, ◌+◌, ◌<◌, ◌≤◌, List, [], ◌∷◌, ◌++◌, map, reverse, length, get_or, take, drop, set, Some, Ok, Err, Result, sym, refl, ap, ◌∙◌, subst, ⊎_elim, arith}
 use mathlib.Core.List.{reverse-cons}
-use mir.Val.{bool_byte}
-use Rattle.std.proofs.lemmas.List.{length-append, length_push, length-reverse, length-map, take_at, take_all, take-append-le, get_or_push, nil_from_length, append-nil}
-use Rattle.std.proofs.lemmas.Bool.{leb-true, leb-false, le-leb}
+use Rattle.std.proofs.lemmas.List.{length-append, length_push, length-reverse, length-map, take_at, take_all, take-append-le, take-append-drop, take-set, drop-set, get_or_push, append-nil}
+use Rattle.std.proofs.lemmas.Bool.{cases_lt, cond-true, cond-false, lt-ltb, le-ltb}
 use Rattle.logic.specs.declared.tableau.Constraint.{Constraint}
 use Rattle.logic.specs.declared.tableau.Edge.{Edge}
 use Rattle.logic.specs.Branches.{Branch, with}
 use Rattle.logic.specs.Limits.{Lengths}
 use Rattle.judge.specs.declared.working.Split.{Split}
 use Rattle.judge.specs.declared.working.Counts.{Counts}
+use Rattle.judge.specs.declared.step_fault.StepFault.{StepFault}
+use Rattle.judge.specs.declared.step_fault.StepFault.TheVariants.{Full}
 use Rattle.judge.specs.Blanks.{no_constraint, no_edge, no_split, lengths}
-use Rattle.judge.specs.Lists.{Appended, Blanked, Listed}
+use Rattle.judge.specs.Lists.{Blanked, Listed}
 use Rattle.judge.specs.Progress.{Room}
-use Rattle.judge.specs.Shown.{Pending, second_of, stored, Fronts, Shown, grown, back, Moved}
+use Rattle.judge.specs.Shown.{Counted, Pending, second_of, stored, Fronts, Shown, labelled, back, Moved}
 use Rattle.judge.proofs.Listing.{listed_append, listed_cut}
 
 -- fronts stay fronts of what grows
@@ -25,22 +26,9 @@ fronts_with (p ∷ ps) br cs es n h f =
     let d : p.before.next ≤ br.next = f.4 in
     (omega (arith, length-append br.constraints cs), take-append-le (length p.before.constraints) br.constraints cs (omega arith) ∙ f.1, omega (arith, length-append br.edges es), take-append-le (length p.before.edges) br.edges es (omega arith) ∙ f.3, omega arith, f.5)
 
-fronts_grown : (new : Bool) (ps : List Pending) (br : Branch) (cs : List Constraint) (es : List Edge) → Fronts ps br → Fronts ps (grown br cs es new)
-fronts_grown true ps br cs es f = fronts_with ps br cs es (br.next + 1) (omega arith) f
-fronts_grown false ps br cs es f = fronts_with ps br cs es br.next (omega arith) f
-
--- what a grown branch has
-grown_constraints : (new : Bool) (br : Branch) (cs : List Constraint) (es : List Edge) → (grown br cs es new).constraints ≡ br.constraints ++ cs
-grown_constraints true br cs es = refl
-grown_constraints false br cs es = refl
-
-grown_edges : (new : Bool) (br : Branch) (cs : List Constraint) (es : List Edge) → (grown br cs es new).edges ≡ br.edges ++ es
-grown_edges true br cs es = refl
-grown_edges false br cs es = refl
-
-grown_next : (new : Bool) (br : Branch) (cs : List Constraint) (es : List Edge) → (grown br cs es new).next ≡ br.next + bool_byte new
-grown_next true br cs es = refl
-grown_next false br cs es = sym (add-zero br.next)
+-- a branch with one label more
+abbrev pub next_label : Branch → Branch
+next_label br = record { constraints = br.constraints; edges = br.edges; next = br.next + 1 }
 
 module _ (br : Branch) (ps : List Pending) (at : Counts) (cs : List Constraint) (es : List Edge) (ss : List Split) (s : Shown br ps at cs es ss) where
   abbrev ls : Lengths
@@ -48,6 +36,9 @@ module _ (br : Branch) (ps : List Pending) (at : Counts) (cs : List Constraint) 
 
   split_count : length ps ≡ at.splits
   split_count = sym (length-reverse (map stored ps) ∙ length-map ps stored) ∙ s.splits.count
+
+  pub counted : Counted at br
+  counted = record { constraints = s.constraints.count; edges = s.edges.count; labels = s.labels }
 
   -- what is shown has room
   pub shown_room : Room ls (length ps) br
@@ -62,50 +53,58 @@ module _ (br : Branch) (ps : List Pending) (at : Counts) (cs : List Constraint) 
       let l : at.labels ≤ 256 = s.few in
       record { lists = record { constraints = omega arith; edges = omega arith; splits = omega arith }; labels = omega arith }
 
-  module _ (xs : List Constraint) (ys : List Edge) (new : Bool) where
-    pub grow_ok : (cs' : List Constraint) (es' : List Edge) → length cs' ≡ length cs → length es' ≡ length es → true ≡ leb (at.constraints + length xs) (length cs) → true ≡ leb (at.edges + length ys) (length es) → at.labels + bool_byte new ≤ 256 → Appended true no_constraint at.constraints xs cs cs' → Appended true no_edge at.edges ys es es' → Shown (grown br xs ys new) ps (record { constraints = at.constraints + length xs; edges = at.edges + length ys; splits = at.splits; labels = at.labels + bool_byte new }) cs' es' ss
-    grow_ok cs' es' n m h k l a b =
-        let c = leb-true (at.constraints + length xs) (length cs) (sym h) in
-        let e = leb-true (at.edges + length ys) (length es) (sym k) in
+  -- one label more
+  abbrev more : Counts
+  more = record { constraints = at.constraints; edges = at.edges; splits = at.splits; labels = at.labels + 1 }
+
+  shown_more : at.labels < 256 → Shown (next_label br) ps more cs es ss
+  shown_more h =
+      record {
+        constraints = s.constraints;
+        edges = s.edges;
+        splits = s.splits;
+        labels = ap (λ n. n + 1) s.labels;
+        few = omega arith;
+        fronts = subst (λ b. Fronts ps b) (λ i. record { constraints = append-nil br.constraints i; edges = append-nil br.edges i; next = br.next + 1 }) (fronts_with ps br [] [] (br.next + 1) (omega arith) s.fronts);
+      }
+
+  pub label_more : (n : Counts) → ◌≡◌ {A = Result Counts StepFault} (Ok n) (labelled at) → Shown (next_label br) ps n cs es ss
+  label_more n e =
+      ⊎_elim
+      (λ (h : at.labels < 256).
+      let p : ◌≡◌ {A = Result Counts StepFault} (Ok n) (Ok more) = e ∙ cond-true _ _ _ (lt-ltb at.labels 256 h) in
+      let q : n ≡ more = cc in subst (λ m. Shown (next_label br) ps m cs es ss) (sym q) (shown_more h))
+      (λ (h : 256 ≤ at.labels).
+      let p : ◌≡◌ {A = Result Counts StepFault} (Ok n) (Err Full) = e ∙ cond-false _ _ _ (le-ltb at.labels 256 h) in
+      let z : ◌≡◌ {A = ℕ} 0 1 = cc in absurd (omega arith))
+      (cases_lt at.labels 256)
+
+  module _ (xs : List Constraint) (ys : List Edge) where
+    pub extend_ok : (cs' : List Constraint) (es' : List Edge) → at.constraints + length xs ≤ length cs → at.edges + length ys ≤ length es → cs' ≡ take at.constraints cs ++ (xs ++ drop (at.constraints + length xs) cs) → es' ≡ take at.edges es ++ (ys ++ drop (at.edges + length ys) es) → Shown (with br xs ys) ps (record { constraints = at.constraints + length xs; edges = at.edges + length ys; splits = at.splits; labels = at.labels }) cs' es' ss
+    extend_ok cs' es' c e a b =
         record {
-          constraints = subst (λ v. Listed no_constraint cs' (at.constraints + length xs) v) (sym (grown_constraints new br xs ys)) (listed_append no_constraint cs cs' at.constraints br.constraints xs c n a s.constraints);
-          edges = subst (λ v. Listed no_edge es' (at.edges + length ys) v) (sym (grown_edges new br xs ys)) (listed_append no_edge es es' at.edges br.edges ys e m b s.edges);
+          constraints = listed_append no_constraint cs cs' at.constraints br.constraints xs c a s.constraints;
+          edges = listed_append no_edge es es' at.edges br.edges ys e b s.edges;
           splits = s.splits;
-          labels = grown_next new br xs ys ∙ ap (λ v. v + bool_byte new) s.labels;
-          few = l;
-          fronts = fronts_grown new ps br xs ys s.fronts;
+          labels = s.labels;
+          few = s.few;
+          fronts = fronts_with ps br xs ys br.next (omega arith) s.fronts;
         }
-
-    pub constraints_full : false ≡ leb (at.constraints + length xs) (length cs) → Room ls (length ps) (grown br xs ys new) → ⊥
-    constraints_full h r =
-        let c : length cs < at.constraints + length xs = leb-false _ _ (sym h) in
-        let a : length br.constraints ≡ at.constraints = s.constraints.count in
-        let b : length (grown br xs ys new).constraints ≡ length br.constraints + length xs = ap length (grown_constraints new br xs ys) ∙ length-append br.constraints xs in
-        let l : length (grown br xs ys new).constraints ≤ length cs = r.lists.constraints in
-        omega arith
-
-    pub edges_full : false ≡ leb (at.edges + length ys) (length es) → Room ls (length ps) (grown br xs ys new) → ⊥
-    edges_full h r =
-        let c : length es < at.edges + length ys = leb-false _ _ (sym h) in
-        let a : length br.edges ≡ at.edges = s.edges.count in
-        let b : length (grown br xs ys new).edges ≡ length br.edges + length ys = ap length (grown_edges new br xs ys) ∙ length-append br.edges ys in
-        let l : length (grown br xs ys new).edges ≤ length es = r.lists.edges in
-        omega arith
 
   abbrev first_branch : Constraint → Branch
   first_branch x = with br (x ∷ []) []
 
-  pub split_ok : (x y : Constraint) (cs' : List Constraint) (ss' : List Split) → length cs' ≡ length cs → length ss' ≡ length ss → true ≡ leb (at.splits + 1) (length ss) → true ≡ leb (at.constraints + 1) (length cs) → Appended true no_split at.splits (record { constraints = at.constraints; edges = at.edges; labels = at.labels; second = y } ∷ []) ss ss' → Appended true no_constraint at.constraints (x ∷ []) cs cs' → Shown (first_branch x) (record { before = br; second = y } ∷ ps) (record { constraints = at.constraints + 1; edges = at.edges; splits = at.splits + 1; labels = at.labels }) cs' es ss'
-  split_ok x y cs' ss' n m k h b a =
+  pub split_ok : (x y : Constraint) (cs' : List Constraint) (ss' : List Split) → at.splits + 1 ≤ length ss → at.constraints + 1 ≤ length cs → ss' ≡ take at.splits ss ++ (record { constraints = at.constraints; edges = at.edges; labels = at.labels; second = y } ∷ drop (at.splits + 1) ss) → cs' ≡ take at.constraints cs ++ (x ∷ drop (at.constraints + 1) cs) → Shown (first_branch x) (record { before = br; second = y } ∷ ps) (record { constraints = at.constraints + 1; edges = at.edges; splits = at.splits + 1; labels = at.labels }) cs' es ss'
+  split_ok x y cs' ss' k h b a =
       let count : length br.constraints ≡ at.constraints = s.constraints.count in
       let edges : length br.edges ≡ at.edges = s.edges.count in
       let pushed : Pending = record { before = br; second = y } in
       let old : Split = record { constraints = at.constraints; edges = at.edges; labels = at.labels; second = y } in
       let same : old ≡ stored pushed = sym (λ i. record { constraints = count i; edges = edges i; labels = s.labels i; second = y }) in
-      let listed = listed_append no_split ss ss' at.splits (reverse (map stored ps)) (old ∷ []) (leb-true _ _ (sym k)) m b s.splits in
+      let listed = listed_append no_split ss ss' at.splits (reverse (map stored ps)) (old ∷ []) k b s.splits in
       let few : br.next ≤ br.next = omega arith in
       record {
-        constraints = listed_append no_constraint cs cs' at.constraints br.constraints (x ∷ []) (leb-true _ _ (sym h)) n a s.constraints;
+        constraints = listed_append no_constraint cs cs' at.constraints br.constraints (x ∷ []) h a s.constraints;
         edges = subst (λ v. Listed no_edge es at.edges v) (sym (append-nil br.edges)) s.edges;
         splits = subst (λ v. Listed no_split ss' (at.splits + 1) v) (ap (λ v. reverse (map stored ps) ++ v ∷ []) same ∙ sym (reverse-cons (stored pushed) (map stored ps))) listed;
         labels = s.labels;
@@ -113,82 +112,76 @@ module _ (br : Branch) (ps : List Pending) (at : Counts) (cs : List Constraint) 
         fronts = (omega (arith, length_push br.constraints x), take_at br.constraints (x ∷ []) _ refl, omega (arith, ap length (append-nil br.edges)), take_all (length br.edges) (br.edges ++ []) (omega (arith, ap length (append-nil br.edges))) ∙ append-nil br.edges, few, s.fronts);
       }
 
-  module _ (x y : Constraint) where
-    pub splits_full : false ≡ leb (at.splits + 1) (length ss) → Room ls (length (record { before = br; second = y } ∷ ps)) (first_branch x) → ⊥
-    splits_full h r =
-        let c : length ss < at.splits + 1 = leb-false _ _ (sym h) in
-        let a : length ps ≡ at.splits = split_count in
-        let l : length (record { before = br; second = y } ∷ ps) ≤ length ss = r.lists.splits in
+  -- the latest split is the last record of the list
+  module _ (left : ℕ) (last : left + 1 ≡ at.splits) where
+    abbrev latest : Split
+    latest = get_or ss left no_split
+
+    latest_is : (p : Pending) × (rest : List Pending) × (ps ≡ p ∷ rest) × (latest ≡ stored p)
+    latest_is = go ps refl
+      where
+        go : (qs : List Pending) → ps ≡ qs → (p : Pending) × (rest : List Pending) × (ps ≡ p ∷ rest) × (latest ≡ stored p)
+        go [] q =
+            let z : at.splits ≡ 0 = sym split_count ∙ ap length q in
+            absurd (omega arith)
+        go (p ∷ rest) q =
+            let before = reverse (map stored rest) in
+            let all : reverse (map stored ps) ≡ before ++ stored p ∷ [] = ap (λ v. reverse (map stored v)) q ∙ reverse-cons (stored p) (map stored rest) in
+            let n : length before + 1 ≡ at.splits = sym (length_push before (stored p)) ∙ ap length (sym all) ∙ s.splits.count in
+            (p, rest, q, s.splits.held left ∙ ap (λ v. get_or v left no_split) all ∙ get_or_push before (stored p) no_split left (omega arith))
+
+    -- what is cut back was there
+    latest_below : latest.constraints < at.constraints
+    latest_below =
+        let found = latest_is in
+        let f = subst (λ v. Fronts v br) found.2 s.fronts in
+        let a : length found.0.before.constraints < length br.constraints = f.0 in
+        let c : latest.constraints ≡ length found.0.before.constraints = ap (λ (v : Split). v.constraints) found.3 in
+        let count : length br.constraints ≡ at.constraints = s.constraints.count in
         omega arith
 
-    pub first_full : false ≡ leb (at.constraints + 1) (length cs) → Room ls (length (record { before = br; second = y } ∷ ps)) (first_branch x) → ⊥
-    first_full h r =
-        let c : length cs < at.constraints + 1 = leb-false _ _ (sym h) in
-        let a : length br.constraints ≡ at.constraints = s.constraints.count in
-        let l : length (br.constraints ++ x ∷ []) ≤ length cs = r.lists.constraints in
-        omega (arith, length_push br.constraints x)
+    pub latest_within : latest.constraints < length cs
+    latest_within =
+        let h : at.constraints ≤ length cs = s.constraints.fits in
+        omega (arith, latest_below)
 
-  pub none_pending : at.splits ≡ 0 → ps ≡ []
-  none_pending h = nil_from_length ps (split_count ∙ h)
-
-  -- the latest split is the last record of the list
-  latest_is : (l : Split) → 0 < at.splits → l ≡ get_or ss (at.splits - 1) no_split → (p : Pending) × (rest : List Pending) × (ps ≡ p ∷ rest) × (l ≡ stored p)
-  latest_is l h e = go ps refl
-    where
-      go : (qs : List Pending) → ps ≡ qs → (p : Pending) × (rest : List Pending) × (ps ≡ p ∷ rest) × (l ≡ stored p)
-      go [] q =
-          let z : at.splits ≡ 0 = sym split_count ∙ ap length q in
-          absurd (omega arith)
-      go (p ∷ rest) q =
-          let before = reverse (map stored rest) in
-          let all : reverse (map stored ps) ≡ before ++ stored p ∷ [] = ap (λ v. reverse (map stored v)) q ∙ reverse-cons (stored p) (map stored rest) in
-          let n : length before + 1 ≡ at.splits = sym (length_push before (stored p)) ∙ ap length (sym all) ∙ s.splits.count in
-          (p, rest, q, e ∙ s.splits.held (at.splits - 1) ∙ ap (λ v. get_or v (at.splits - 1) no_split) all ∙ get_or_push before (stored p) no_split (at.splits - 1) (omega arith))
-
-  -- what is cut back was there
-  pub latest_below : (l : Split) → 0 < at.splits → l ≡ get_or ss (at.splits - 1) no_split → l.constraints < at.constraints
-  latest_below l h e =
-      let found = latest_is l h e in
-      let f = subst (λ v. Fronts v br) found.2 s.fronts in
-      let a : length found.0.before.constraints < length br.constraints = f.0 in
-      let c : l.constraints ≡ length found.0.before.constraints = ap (λ (v : Split). v.constraints) found.3 in
-      let count : length br.constraints ≡ at.constraints = s.constraints.count in
-      omega arith
-
-  pub close_back : (l : Split) (cs' cs'' : List Constraint) (es' : List Edge) (ss' : List Split) → 0 < at.splits → l ≡ get_or ss (at.splits - 1) no_split → length cs' ≡ length cs → length cs'' ≡ length cs' → length es' ≡ length es → length ss' ≡ length ss → Blanked no_split (at.splits - 1) at.splits ss ss' → Blanked no_constraint l.constraints at.constraints cs cs' → Blanked no_edge l.edges at.edges es es' → (b : Bool) → b ≡ leb (l.constraints + 1) (length cs') → Appended b no_constraint l.constraints (l.second ∷ []) cs' cs'' → Moved ls (λ n σ. Shown σ.branch σ.pending n cs'' es' ss') (back ps) (Ok (Some (record { constraints = l.constraints + 1; edges = l.edges; splits = at.splits - 1; labels = l.labels })))
-  close_back l cs' cs'' es' ss' h e lc lc' le ls' bs bc be b room a =
-      let found = latest_is l h e in
-      let p = found.0 in
-      let rest = found.1 in
-      let is : l ≡ stored p = found.3 in
-      let f = subst (λ v. Fronts v br) found.2 s.fronts in
-      let before = reverse (map stored rest) in
-      let c : l.constraints < at.constraints = latest_below l h e in
-      let fits : at.constraints ≤ length cs = s.constraints.fits in
-      let d : l.edges ≤ at.edges =
-      let x : l.edges ≡ length p.before.edges = ap (λ (v : Split). v.edges) is in
-      let y : length p.before.edges ≤ length br.edges = f.2 in
-      let z : length br.edges ≡ at.edges = s.edges.count in omega arith in
-      let count : length before ≡ at.splits - 1 =
-      let k : length (p ∷ rest) ≡ at.splits = ap length (sym found.2) ∙ split_count in omega (arith, length-reverse (map stored rest), length-map rest stored, k) in
-      let cut : take (at.splits - 1) (reverse (map stored ps)) ≡ before =
-      ap (λ v. take (at.splits - 1) (reverse (map stored v))) found.2 ∙ ap (λ v. take (at.splits - 1) v) (reverse-cons (stored p) (map stored rest)) ∙ take_at before (stored p ∷ []) (at.splits - 1) count in
-      let cs-is : take l.constraints br.constraints ++ l.second ∷ [] ≡ p.before.constraints ++ p.second ∷ [] =
-      ap (λ (v : Split). take v.constraints br.constraints ++ v.second ∷ []) is ∙ ap (λ v. v ++ p.second ∷ []) f.1 in
-      let es-is : take l.edges br.edges ≡ p.before.edges ++ [] = ap (λ (v : Split). take v.edges br.edges) is ∙ f.3 ∙ sym (append-nil p.before.edges) in
-      let yes : b ≡ true = room ∙ le-leb (l.constraints + 1) (length cs') (omega arith) in
-      let labels : l.labels ≡ p.before.next = ap (λ (v : Split). v.labels) is in
-      let few : p.before.next ≤ br.next = f.4 in
-      let next : br.next ≡ at.labels = s.labels in
-      let most : at.labels ≤ 256 = s.few in
-      subst (λ v. Moved ls (λ n σ. Shown σ.branch σ.pending n cs'' es' ss') (back v) (Ok (Some (record { constraints = l.constraints + 1; edges = l.edges; splits = at.splits - 1; labels = l.labels })))) (sym found.2) (record {
-        constraints = subst (λ v. Listed no_constraint cs'' (l.constraints + 1) v) cs-is (listed_append no_constraint cs' cs'' l.constraints (take l.constraints br.constraints) (l.second ∷ []) (omega arith) lc' (subst (λ v. Appended v no_constraint l.constraints (l.second ∷ []) cs' cs'') yes a) (listed_cut no_constraint cs cs' l.constraints at.constraints br.constraints (omega arith) lc bc s.constraints));
-        edges = subst (λ v. Listed no_edge es' l.edges v) es-is (listed_cut no_edge es es' l.edges at.edges br.edges d le be s.edges);
-        splits = subst (λ v. Listed no_split ss' (at.splits - 1) v) cut (listed_cut no_split ss ss' (at.splits - 1) at.splits (reverse (map stored ps)) (omega arith) ls' bs s.splits);
-        labels = sym labels;
-        few = omega arith;
-        fronts = fronts_with rest p.before (p.second ∷ []) [] p.before.next (omega arith) f.5;
-      })
+    pub close_back : (cs' : List Constraint) (es' : List Edge) (ss' : List Split) → length cs' ≡ length cs → length es' ≡ length es → length ss' ≡ length ss → Blanked no_split left at.splits ss ss' → Blanked no_constraint latest.constraints at.constraints cs cs' → Blanked no_edge latest.edges at.edges es es' → Moved ls (λ n σ. Shown σ.branch σ.pending n (set cs' latest.constraints latest.second) es' ss') (back ps) (Ok (Some (record { constraints = latest.constraints + 1; edges = latest.edges; splits = left; labels = latest.labels })))
+    close_back cs' es' ss' lc le ls' bs bc be =
+        let l = latest in
+        let cs'' = set cs' l.constraints l.second in
+        let found = latest_is in
+        let p = found.0 in
+        let rest = found.1 in
+        let is : l ≡ stored p = found.3 in
+        let f = subst (λ v. Fronts v br) found.2 s.fronts in
+        let before = reverse (map stored rest) in
+        let c : l.constraints < at.constraints = latest_below in
+        let fits : at.constraints ≤ length cs = s.constraints.fits in
+        let put : cs'' ≡ take l.constraints cs' ++ (l.second ∷ drop (l.constraints + 1) cs') =
+        sym (take-append-drop l.constraints cs'') ∙ (λ i. take-set cs' l.constraints l.second i ++ drop-set cs' l.constraints l.second (omega arith) i) in
+        let d : l.edges ≤ at.edges =
+        let x : l.edges ≡ length p.before.edges = ap (λ (v : Split). v.edges) is in
+        let y : length p.before.edges ≤ length br.edges = f.2 in
+        let z : length br.edges ≡ at.edges = s.edges.count in omega arith in
+        let count : length before ≡ left =
+        let k : length (p ∷ rest) ≡ at.splits = ap length (sym found.2) ∙ split_count in omega (arith, length-reverse (map stored rest), length-map rest stored, k) in
+        let cut : take left (reverse (map stored ps)) ≡ before =
+        ap (λ v. take left (reverse (map stored v))) found.2 ∙ ap (λ v. take left v) (reverse-cons (stored p) (map stored rest)) ∙ take_at before (stored p ∷ []) left count in
+        let cs-is : take l.constraints br.constraints ++ l.second ∷ [] ≡ p.before.constraints ++ p.second ∷ [] =
+        ap (λ (v : Split). take v.constraints br.constraints ++ v.second ∷ []) is ∙ ap (λ v. v ++ p.second ∷ []) f.1 in
+        let es-is : take l.edges br.edges ≡ p.before.edges ++ [] = ap (λ (v : Split). take v.edges br.edges) is ∙ f.3 ∙ sym (append-nil p.before.edges) in
+        let labels : l.labels ≡ p.before.next = ap (λ (v : Split). v.labels) is in
+        let few : p.before.next ≤ br.next = f.4 in
+        let next : br.next ≡ at.labels = s.labels in
+        let most : at.labels ≤ 256 = s.few in
+        subst (λ v. Moved ls (λ n σ. Shown σ.branch σ.pending n cs'' es' ss') (back v) (Ok (Some (record { constraints = l.constraints + 1; edges = l.edges; splits = left; labels = l.labels })))) (sym found.2) (record {
+          constraints = subst (λ v. Listed no_constraint cs'' (l.constraints + 1) v) cs-is (listed_append no_constraint cs' cs'' l.constraints (take l.constraints br.constraints) (l.second ∷ []) (omega arith) put (listed_cut no_constraint cs cs' l.constraints at.constraints br.constraints (omega arith) lc bc s.constraints));
+          edges = subst (λ v. Listed no_edge es' l.edges v) es-is (listed_cut no_edge es es' l.edges at.edges br.edges d le be s.edges);
+          splits = subst (λ v. Listed no_split ss' left v) cut (listed_cut no_split ss ss' left at.splits (reverse (map stored ps)) (omega arith) ls' bs s.splits);
+          labels = sym labels;
+          few = omega arith;
+          fronts = fronts_with rest p.before (p.second ∷ []) [] p.before.next (omega arith) f.5;
+        })
 
 -- the second branch of the latest split has room
 pub second_room : (br : Branch) (p : Pending) (ps : List Pending) (at : Counts) (cs : List Constraint) (es : List Edge) (ss : List Split) → Shown br (p ∷ ps) at cs es ss → Room (lengths cs es ss) (length ps) (second_of p)

@@ -15,7 +15,7 @@ use Rattle.judge.specs.declared.step_fault.StepFault.TheVariants.{Malformed, Nev
 use Rattle.judge.specs.Blanks.{no_constraint, no_edge}
 use Rattle.judge.specs.Ops.{op_of, operand_of, cites, stray, there, on_branch, test_op, malformed, never_entered, not_there, struck}
 use Rattle.judge.specs.Decisions.{expanded, cited, by_entry, by_constraint, decided, decision}
-use Rattle.judge.specs.Reasons.{Named, NoRoom}
+use Rattle.judge.specs.Reasons.{Named, NoRoom, Because}
 use Rattle.judge.proofs.Agreeing.{does, closes_decides, splits_decides, extends_decides}
 
 -- a test failed before any rule is tried, or none did
@@ -92,15 +92,6 @@ module _ (bk : Book) (br : Branch) (s : Step) where
   by_tests f e = failed_op (op_of s.op) f e
 
   module _ (ls : Lengths) (pending : ℕ) where
-    -- why the step is refused
-    abbrev pub Because : StepFault → Type 0
-    Because Malformed = malformed s ≡ true
-    Because NeverEntered = (malformed s ≡ false) × (never_entered bk s ≡ true)
-    Because NotThere = (malformed s ≡ false) × (never_entered bk s ≡ false) × (not_there br s ≡ true)
-    Because Struck = (malformed s ≡ false) × (never_entered bk s ≡ false) × (not_there br s ≡ false) × (struck bk s ≡ true)
-    Because Misfit = Named bk br s × NoRule bk br s
-    Because Full = NoRoom bk ls br pending s
-
     differ : {A : Type 0} (e : Effect) (f : StepFault) → decision bk br s ≡ Ok e → decision bk br s ≡ Err f → A
     differ e f p q = let z : ◌≡◌ {A = ℕ} 0 1 = cc in absurd (omega arith)
 
@@ -113,7 +104,7 @@ module _ (bk : Book) (br : Branch) (s : Step) where
         }
 
     -- a decision that refuses has its reason
-    pub because : (f : StepFault) → decision bk br s ≡ Err f → Because f
+    pub because : (f : StepFault) → decision bk br s ≡ Err f → Because bk ls f br pending s
     because Malformed h = sorted (Err Malformed) h
     because NeverEntered h = sorted (Err NeverEntered) h
     because NotThere h = sorted (Err NotThere) h
@@ -145,7 +136,7 @@ module _ (bk : Book) (br : Branch) (s : Step) where
         go (Err Full) h = absurd (sorted (Err Full) h)
 
     -- where there is a reason, the step is refused for it, unless it is for want of room
-    pub refuses : (f : StepFault) → Because f → (decision bk br s ≡ Err f) ⊎ ((f ≡ Full) × NoRoom bk ls br pending s)
+    pub refuses : (f : StepFault) → Because bk ls f br pending s → (decision bk br s ≡ Err f) ⊎ ((f ≡ Full) × NoRoom bk ls br pending s)
     refuses Malformed b = inl (by_tests Malformed (cond-true _ _ _ b))
     refuses NeverEntered b = inl (by_tests NeverEntered (cond-false _ _ _ b.0 ∙ cond-true _ _ _ b.1))
     refuses NotThere b = inl (by_tests NotThere (cond-false _ _ _ b.0 ∙ cond-false _ _ _ b.1 ∙ cond-true _ _ _ b.2))

@@ -16,13 +16,13 @@ use Rattle.judge.specs.declared.working.Counts.{Counts}
 use Rattle.judge.specs.declared.working.Split.{Split}
 use Rattle.judge.specs.Decisions.{decision}
 use Rattle.judge.specs.Progress.{Room, Underway, extended, divided, turned, Finished, ended}
-use Rattle.judge.specs.Reasons.{NoRoom, branch_full, split_full}
+use Rattle.judge.specs.Reasons.{NoRoom, branch_full, split_full, Because}
 use Rattle.judge.specs.Blanks.{lengths}
 use Rattle.judge.specs.Shown.{Pending, second_of, Shown, State, on, after, Moved}
 use Rattle.judge.specs.Taking.{Took}
 use Rattle.judge.proofs.Agreeing.{does}
 use Rattle.judge.proofs.Showing.{second_room}
-use Rattle.judge.proofs.Sorting.{Because, because}
+use Rattle.judge.proofs.Sorting.{because}
 
 -- the lists show an open branch, or the last branch is closed
 abbrev pub Stands : Book → Lengths → List Step → (Counts → State → Type 0) → Option Counts → Type 0
@@ -76,10 +76,10 @@ module _ (bk : Book) (s : Step) (br : Branch) (at : Counts) (cs : List Constrain
   crowded Closes (p ∷ ps) f Shows w h m = absurd (m.1 (second_room br p ps at cs es sp w))
 
   -- why a step is refused
-  pub stopped : (ps : List Pending) (f : StepFault) (Shows : Counts → State → Type 0) → Shown br ps at cs es sp → Took bk ls Shows br ps s (Err f) → Because bk br s ls (length (map second_of ps)) f
+  pub stopped : (ps : List Pending) (f : StepFault) (Shows : Counts → State → Type 0) → Shown br ps at cs es sp → Took bk ls Shows br ps s (Err f) → Because bk ls f br (length (map second_of ps)) s
   stopped ps f Shows w t =
       ⊎_elim (because bk br s ls (length (map second_of ps)) f)
       (λ k.
       let r = crowded k.0 ps f Shows w k.1 k.2 in
-      subst (Because bk br s ls (length (map second_of ps))) (sym r.0) (subst (λ n. NoRoom bk ls br n s) (sym (length-map ps second_of)) r.1))
+      subst (λ v. Because bk ls v br (length (map second_of ps)) s) (sym r.0) (subst (λ n. NoRoom bk ls br n s) (sym (length-map ps second_of)) r.1))
       t

@@ -41,10 +41,6 @@ number_of op.AlongBetter = 11
 number_of op.Clash = 12
 number_of op.Absurd = 13
 
--- an effect that one op has
-abbrev pub only : ℕ → Op → Option Effect → Option Effect
-only k o e = cond (number_of o == k) e None
-
 -- an effect along an edge that leads from x by role r
 abbrev pub along : Edge → ℕ → ℕ → Effect → Option Effect
 along e x r f = cond (e.from == x && e.role == r) (Some f) None
@@ -55,56 +51,42 @@ alike c x n = c.label == x && c.node == n
 
 -- forms that deny each other
 abbrev pub denies : Form → Form → Bool
-denies Holds Holds = false
 denies Holds Fails = true
-denies Holds Bars = false
-denies Holds Admits = false
-denies Fails f = false
-denies Bars Holds = false
-denies Bars Fails = false
-denies Bars Bars = false
 denies Bars Admits = true
-denies Admits f = false
+denies _ _ = false
 
--- By form and kind of node: x and n are the label and the node of the constraint, e is the edge that the
--- step names, y the next new label.
-abbrev pub row : Form → Node → Op → ℕ → ℕ → Edge → ℕ → Option Effect
-row Holds node.Top o x n e y = None
-row Holds node.Bottom o x n e y = only 13 o (Some Closes)
-row Holds (node.Name a) o x n e y = None
-row Holds (node.Not c) o x n e y = only 3 o (Some (Adds (constraint x Fails c)))
-row Holds (node.And c d) o x n e y = only 4 o (Some (AddsTwo (constraint x Holds c) (constraint x Holds d)))
-row Holds (node.Or c d) o x n e y = only 5 o (Some (Splits (constraint x Holds c) (constraint x Holds d)))
-row Holds (node.All r c) o x n e y = only 7 o (along e x r (Adds (constraint e.to Holds c)))
-row Holds (node.Exists r c) o x n e y = only 6 o (Some (Grows (edge x r y) (constraint y Holds c)))
-row Holds (node.Typical c) o x n e y = only 8 o (Some (AddsTwo (constraint x Holds c) (constraint x Bars c)))
-row Holds node.Absent o x n e y = None
-row Fails node.Top o x n e y = only 13 o (Some Closes)
-row Fails node.Bottom o x n e y = None
-row Fails (node.Name a) o x n e y = None
-row Fails (node.Not c) o x n e y = only 3 o (Some (Adds (constraint x Holds c)))
-row Fails (node.And c d) o x n e y = only 5 o (Some (Splits (constraint x Fails c) (constraint x Fails d)))
-row Fails (node.Or c d) o x n e y = only 4 o (Some (AddsTwo (constraint x Fails c) (constraint x Fails d)))
-row Fails (node.All r c) o x n e y = only 6 o (Some (Grows (edge x r y) (constraint y Fails c)))
-row Fails (node.Exists r c) o x n e y = only 7 o (along e x r (Adds (constraint e.to Fails c)))
-row Fails (node.Typical c) o x n e y = only 9 o (Some (Splits (constraint x Fails c) (constraint x Admits c)))
-row Fails node.Absent o x n e y = None
-row Bars m o x n e y = only 11 o (along e x 16 (AddsTwo (constraint e.to Fails n) (constraint e.to Bars n)))
-row Admits m o x n e y = only 10 o (Some (GrowsTwo (edge x 16 y) (constraint y Holds n) (constraint y Bars n)))
+-- By op, form and kind of node: x and n are the label and the node of the constraint, e and d are the edge
+-- and the other constraint that the step names, y the next new label.
+abbrev pub row : Op → Form → Node → ℕ → ℕ → Edge → Constraint → ℕ → Option Effect
+row op.Negation Holds (node.Not c) x n e d y = Some (Adds (constraint x Fails c))
+row op.Negation Fails (node.Not c) x n e d y = Some (Adds (constraint x Holds c))
+row op.Conjunction Holds (node.And a c) x n e d y = Some (AddsTwo (constraint x Holds a) (constraint x Holds c))
+row op.Conjunction Fails (node.Or a c) x n e d y = Some (AddsTwo (constraint x Fails a) (constraint x Fails c))
+row op.Disjunction Holds (node.Or a c) x n e d y = Some (Splits (constraint x Holds a) (constraint x Holds c))
+row op.Disjunction Fails (node.And a c) x n e d y = Some (Splits (constraint x Fails a) (constraint x Fails c))
+row op.Successor Holds (node.Exists r c) x n e d y = Some (Grows (edge x r y) (constraint y Holds c))
+row op.Successor Fails (node.All r c) x n e d y = Some (Grows (edge x r y) (constraint y Fails c))
+row op.AlongRole Holds (node.All r c) x n e d y = along e x r (Adds (constraint e.to Holds c))
+row op.AlongRole Fails (node.Exists r c) x n e d y = along e x r (Adds (constraint e.to Fails c))
+row op.Typical Holds (node.Typical c) x n e d y = Some (AddsTwo (constraint x Holds c) (constraint x Bars c))
+row op.Atypical Fails (node.Typical c) x n e d y = Some (Splits (constraint x Fails c) (constraint x Admits c))
+row op.Better Admits m x n e d y = Some (GrowsTwo (edge x 16 y) (constraint y Holds n) (constraint y Bars n))
+row op.AlongBetter Bars m x n e d y = along e x 16 (AddsTwo (constraint e.to Fails n) (constraint e.to Bars n))
+row op.Clash f m x n e d y = cond (denies f d.form && alike d x n) (Some Closes) None
+row op.Absurd Holds node.Bottom x n e d y = Some Closes
+row op.Absurd Fails node.Top x n e d y = Some Closes
+row _ _ _ x n e d y = None
 
 -- an op on constraint c, which is on node m, and the edge and the constraint that the step names
 abbrev pub expanded : Op → Constraint → Node → Edge → Constraint → ℕ → Option Effect
-expanded o c m e d y =
-    cond (number_of o == 12)
-    (cond (denies c.form d.form && alike d c.label c.node) (Some Closes) None)
-    (row c.form m o c.label c.node e y)
+expanded o c m e d y = row o c.form m c.label c.node e d y
 
 -- an op on an entry, at label x
 abbrev pub cited : Entry → Op → ℕ → Option Effect
-cited (entry.Inclusion c d) o x = only 2 o (Some (Splits (constraint x Fails c) (constraint x Holds d)))
-cited (entry.Fact a c) o x = only 1 o (Some (Adds (constraint a Holds c)))
-cited (entry.RoleFact r a b) o x = only 1 o (Some (Links (edge a r b)))
-cited entry.Absent o x = None
+cited (entry.Inclusion c d) op.Include x = Some (Splits (constraint x Fails c) (constraint x Holds d))
+cited (entry.Fact a c) op.Assert x = Some (Adds (constraint a Holds c))
+cited (entry.RoleFact r a b) op.Assert x = Some (Links (edge a r b))
+cited _ _ x = None
 
 -- ops 1 and 2
 unfoldable pub by_entry : Book → Branch → Op → Step → Result Effect StepFault

@@ -1,12 +1,7 @@
 -- Lists of records that have a blank.
--- Appended: records are put behind others. Blanked: a part of a list is blanked. Listed: the records of a list that are in use.
+-- Blanked: a part of a list is blanked. Listed: the records of a list that are in use.
 -- Assumes nothing.
-use Rattle.std.specs.Prelude.{◌≡◌, ℕ, ◌+◌, ◌-◌, ◌≤◌, Bool, cond, ◌&&◌, List, length, nat_le, nat_lt, slice_index_or}
-
--- from place len on stand the records xs, where there is room; the others are as they were
-abbrev pub Appended : {A : Type 0} → Bool → A → ℕ → List A → List A → List A → Type 0
-Appended room z len xs before after =
-    (i : ℕ) → slice_index_or after i z ≡ cond (room && (nat_le len i && nat_lt i (len + length xs))) (slice_index_or xs (i - len) z) (slice_index_or before i z)
+use Rattle.std.specs.Prelude.{◌≡◌, ℕ, ◌≤◌, cond, ◌&&◌, List, length, nat_le, nat_lt, slice_index_or}
 
 -- the records from a up to b are the blank z, and the others are as they were
 abbrev pub Blanked : {A : Type 0} → A → ℕ → ℕ → List A → List A → Type 0

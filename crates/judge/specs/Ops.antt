@@ -1,13 +1,14 @@
 -- The ops of steps, and what their operands name.
--- op_of: an op by its number. cites, operand_of: what its operands a and b name.
+-- op_of, OpOf: an op by its number. cites, operand_of: what its operands a and b name.
 -- malformed, never_entered, not_there, struck: what can be wrong with a step before any rule is tried.
 -- Assumes nothing.
-use Rattle.std.specs.Prelude.{ℕ, Bool, true, false, cond, not, ◌&&◌, ◌||◌, length, Some, None, Option, ◌==◌, nat_le, nat_lt}
+use Rattle.std.specs.Prelude.{◌≡◌, ℕ, Bool, true, false, cond, not, ◌&&◌, ◌||◌, length, Some, None, MatchResult, Option, Result, ◌==◌, nat_le, nat_lt}
 use Rattle.logic.specs.declared.tableau.Step.{Step}
 use Rattle.logic.specs.Books.{Book, line_at}
 use Rattle.logic.specs.Branches.{Branch}
 use Rattle.judge.specs.declared.ops.Op.{Op}
 use Rattle.judge.specs.declared.ops.Op.TheVariants.{Assert, Include, Negation, Conjunction, Disjunction, Successor, AlongRole, Typical, Atypical, Better, AlongBetter, Clash, Absurd}
+use Rattle.judge.specs.declared.ops.UnknownOp.{UnknownOp}
 use Rattle.judge.specs.declared.ops.Operand.{Operand}
 use Rattle.judge.specs.declared.ops.Operand.TheVariants.{Unused, Label, Edge, Constraint}
 
@@ -29,44 +30,28 @@ op_of k =
     cond (k == 13) (Some Absurd) (
     None)))))))))))))
 
+-- the result is the op of the number, or an error with a number that no op has
+abbrev pub OpOf : ℕ → Result Op UnknownOp → Type 0
+OpOf k r = MatchResult r (λ op. op_of k ≡ Some op) (λ e. (op_of k ≡ None) × (e.0 ≡ k))
+
 -- what operand b of an op names
 abbrev pub operand_of : Op → Operand
-operand_of Assert = Unused
 operand_of Include = Label
-operand_of Negation = Unused
-operand_of Conjunction = Unused
-operand_of Disjunction = Unused
-operand_of Successor = Unused
 operand_of AlongRole = Edge
-operand_of Typical = Unused
-operand_of Atypical = Unused
-operand_of Better = Unused
 operand_of AlongBetter = Edge
 operand_of Clash = Constraint
-operand_of Absurd = Unused
+operand_of _ = Unused
 
 -- ops 1 and 2 name an entry by operand a; the others name a constraint
 abbrev pub cites : Op → Bool
 cites Assert = true
 cites Include = true
-cites Negation = false
-cites Conjunction = false
-cites Disjunction = false
-cites Successor = false
-cites AlongRole = false
-cites Typical = false
-cites Atypical = false
-cites Better = false
-cites AlongBetter = false
-cites Clash = false
-cites Absurd = false
+cites _ = false
 
 -- an operand that is unused and not 0
 abbrev pub stray : Operand → ℕ → Bool
 stray Unused b = not (b == 0)
-stray Label b = false
-stray Edge b = false
-stray Constraint b = false
+stray _ b = false
 
 -- the branch has what operand b names
 abbrev pub there : Operand → Branch → ℕ → Bool

@@ -1,7 +1,7 @@
 -- Why a tableau is refused, in the terms of the calculus.
 -- Named: a step is well formed and what it names is there. NoRoom: a rule has the step, and there is
--- no room for what it makes. Stopped: the work stands before a step. Halted, Reason: of each case of
--- the fault.
+-- no room for what it makes. Stopped: the work stands before a step. Because, Halted, Reason: of each
+-- case of the faults.
 -- Assumes nothing.
 use Rattle.std.specs.Prelude.{◌≡◌, ℕ, suc, ◌<◌, true, false, List, length, take}
 use Rattle.logic.specs.declared.tableau.Step.{Step}
@@ -11,7 +11,9 @@ use Rattle.logic.specs.Branches.{Branch}
 use Rattle.logic.specs.Rules.{Extends, Splits, NoRule}
 use Rattle.logic.specs.Limits.{Lengths}
 use Rattle.judge.specs.declared.faults.RefuteFault.{RefuteFault}
-use Rattle.judge.specs.declared.faults.RefuteFault.TheVariants.{BadLength, Malformed, NeverEntered, NotThere, Struck, Misfit, Full, AfterClosing, NotClosed}
+use Rattle.judge.specs.declared.faults.RefuteFault.TheVariants.{BadLength, AtStep, AfterClosing, NotClosed}
+use Rattle.judge.specs.declared.step_fault.StepFault.{StepFault}
+use Rattle.judge.specs.declared.step_fault.StepFault.TheVariants.{Malformed, NeverEntered, NotThere, Struck, Misfit, Full}
 use Rattle.judge.specs.Steps.{decoded, Whole}
 use Rattle.judge.specs.Ops.{malformed, never_entered, not_there, struck}
 use Rattle.judge.specs.Progress.{Room, Underway, Finished}
@@ -38,18 +40,21 @@ pub record Stopped (bk : Book) (ls : Lengths) (ss : List Step) (i : ℕ) (P : Br
   pub underway : Underway bk ls (take i ss) branch pending
   pub because : P branch (length pending) current
 
--- Why steps are refused. The tests of a step run in the order of the cases: a step after closing, then
--- its form, then what it names, then its rule, then the room.
+-- Why step s is refused on the branch br with so many splits pending. The tests of a step run in the
+-- order of the cases: its form, then what it names, then its rule, then the room.
+abbrev pub Because : Book → Lengths → StepFault → Branch → ℕ → Step → Type 0
+Because bk ls Malformed br pending s = malformed s ≡ true
+Because bk ls NeverEntered br pending s = (malformed s ≡ false) × (never_entered bk s ≡ true)
+Because bk ls NotThere br pending s = (malformed s ≡ false) × (never_entered bk s ≡ false) × (not_there br s ≡ true)
+Because bk ls Struck br pending s =
+    (malformed s ≡ false) × (never_entered bk s ≡ false) × (not_there br s ≡ false) × (struck bk s ≡ true)
+Because bk ls Misfit br pending s = Named bk br s × NoRule bk br s
+Because bk ls Full br pending s = NoRoom bk ls br pending s
+
+-- why steps are refused: one of them, one after closing, or that a branch is still open at their end
 abbrev pub Halted : Book → Lengths → List Step → RefuteFault → Type 0
 Halted bk ls ss (BadLength n) = ⊥
-Halted bk ls ss (Malformed i) = Stopped bk ls ss i (λ br k s. malformed s ≡ true)
-Halted bk ls ss (NeverEntered i) = Stopped bk ls ss i (λ br k s. (malformed s ≡ false) × (never_entered bk s ≡ true))
-Halted bk ls ss (NotThere i) =
-    Stopped bk ls ss i (λ br k s. (malformed s ≡ false) × (never_entered bk s ≡ false) × (not_there br s ≡ true))
-Halted bk ls ss (Struck i) =
-    Stopped bk ls ss i (λ br k s. (malformed s ≡ false) × (never_entered bk s ≡ false) × (not_there br s ≡ false) × (struck bk s ≡ true))
-Halted bk ls ss (Misfit i) = Stopped bk ls ss i (λ br k s. Named bk br s × NoRule bk br s)
-Halted bk ls ss (Full i) = Stopped bk ls ss i (λ br k s. NoRoom bk ls br k s)
+Halted bk ls ss (AtStep i f) = Stopped bk ls ss i (Because bk ls f)
 Halted bk ls ss (AfterClosing i) = (i < length ss) × Finished bk ls (take i ss)
 Halted bk ls ss (NotClosed n) = (n ≡ length ss) × ((br : Branch) × (ps : List Branch) × Underway bk ls ss br ps)
 

@@ -1,19 +1,21 @@
 -- A branch with its pending splits in the working lists. It serves the contracts of private functions.
--- Pending: a split as the calculus has it. Counted: a branch by its counts. Shown: what the lists hold.
--- State, after: where the work goes after an effect. Moved: what code makes of it.
+-- Counted: a branch by its counts. labelled: one label more. Pending: a split as the calculus has it.
+-- Shown: what lists show. State: what is worked. Holds, Sound: what the working lists hold. after: where the
+-- work goes after an effect. Moved, Goes: what code makes of it.
 -- Assumes nothing.
-use Rattle.std.specs.Prelude.{◌≡◌, ◌<◌, ◌≤◌, Bool, cond, List, [], ◌∷◌, map, reverse, length, take, Some, None, Ok, Err, Option, Result}
+use Rattle.std.specs.Prelude.{◌≡◌, ◌+◌, ◌<◌, ◌≤◌, nat_lt, if◌then◌else◌, List, [], ◌∷◌, map, reverse, length, take, Some, None, Ok, Err, Option, Result}
 use Rattle.logic.specs.declared.tableau.Constraint.{Constraint}
 use Rattle.logic.specs.declared.tableau.Edge.{Edge}
 use Rattle.logic.specs.Branches.{Branch, with, with_new}
 use Rattle.logic.specs.Limits.{Lengths}
 use Rattle.judge.specs.declared.working.Split.{Split}
 use Rattle.judge.specs.declared.working.Counts.{Counts}
+use Rattle.judge.specs.declared.working.Lists.{Lists}
 use Rattle.judge.specs.declared.effect.Effect.{Effect}
 use Rattle.judge.specs.declared.effect.Effect.TheVariants.{Adds, AddsTwo, Links, Grows, GrowsTwo, Splits, Closes}
 use Rattle.judge.specs.declared.step_fault.StepFault.{StepFault}
 use Rattle.judge.specs.declared.step_fault.StepFault.TheVariants.{Full}
-use Rattle.judge.specs.Blanks.{no_constraint, no_edge, no_split}
+use Rattle.judge.specs.Blanks.{no_constraint, no_edge, no_split, lengths_of}
 use Rattle.judge.specs.Lists.{Listed}
 use Rattle.judge.specs.Progress.{Room}
 
@@ -22,6 +24,11 @@ pub record Counted (at : Counts) (br : Branch) : Type 0 where
   pub constraints : length br.constraints ≡ at.constraints
   pub edges : length br.edges ≡ at.edges
   pub labels : br.next ≡ at.labels
+
+-- one label more, if it is none above 255
+abbrev pub labelled : Counts → Result Counts StepFault
+labelled at =
+    if nat_lt at.labels 256 then Ok (record { constraints = at.constraints; edges = at.edges; splits = at.splits; labels = at.labels + 1 }) else Err Full
 
 -- the branch before a split, and the second alternative
 pub record Pending : Type 0 where
@@ -47,7 +54,7 @@ Fronts (p ∷ ps) br =
     × (p.before.next ≤ br.next)
     × Fronts ps p.before
 
--- the lists hold the branch and the pending splits, the latest split last
+-- the lists show the branch and the pending splits, the latest split last
 pub record Shown (br : Branch) (ps : List Pending) (at : Counts) (cs : List Constraint) (es : List Edge) (ss : List Split) : Type 0 where
   pub constraints : Listed no_constraint cs at.constraints br.constraints
   pub edges : Listed no_edge es at.edges br.edges
@@ -55,10 +62,6 @@ pub record Shown (br : Branch) (ps : List Pending) (at : Counts) (cs : List Cons
   pub labels : br.next ≡ at.labels
   pub few : at.labels ≤ 256
   pub fronts : Fronts ps br
-
--- the lists hold some branch
-abbrev pub Sound : Counts → List Constraint → List Edge → List Split → Type 0
-Sound at cs es ss = (br : Branch) × (ps : List Pending) × Shown br ps at cs es ss
 
 -- the branch that is worked, and the pending splits, the latest first
 pub record State : Type 0 where
@@ -68,9 +71,13 @@ pub record State : Type 0 where
 abbrev pub on : Branch → List Pending → State
 on br ps = record { branch = br; pending = ps }
 
--- more constraints and edges, and a new label or none
-abbrev pub grown : Branch → List Constraint → List Edge → Bool → Branch
-grown br cs es new = cond new (with_new br cs es) (with br cs es)
+-- the lists hold a state
+abbrev pub Holds : Lists → Counts → State → Type 0
+Holds l at σ = Shown σ.branch σ.pending at l.constraints.now l.edges.now l.splits.now
+
+-- they hold some state
+abbrev pub Sound : Lists → Counts → Type 0
+Sound l at = (σ : State) × Holds l at σ
 
 -- back to the latest split, and on with its second alternative; nowhere, where none is pending
 abbrev pub back : List Pending → Option State
@@ -99,3 +106,7 @@ Moved ls Shows None (Err f) = ⊥
 Moved ls Shows (Some σ) (Ok None) = ⊥
 Moved ls Shows (Some σ) (Ok (Some at)) = Shows at σ
 Moved ls Shows (Some σ) (Err f) = Overfull ls σ f
+
+-- work on lists that hold a state, at these counts: they hold then where it goes, or have no room for it
+abbrev pub Goes : Lists → Counts → Lists → (Branch → List Pending → Option State) → Result (Option Counts) StepFault → Type 0
+Goes before at now to r = (σ : State) → Holds before at σ → Moved (lengths_of before) (Holds now) (to σ.branch σ.pending) r

@@ -16,9 +16,10 @@ use Rattle.models.specs.Interpretations.{Interpretation, said}
 use Rattle.models.specs.Fields.{Valid, LowestBad}
 use Rattle.models.specs.Meanings.{Fits, meant}
 use Rattle.models.specs.Extensions.{HaveSets}
-use Rattle.models.specs.Answers.{Whole}
+use Rattle.models.specs.declared.faults.ViewFault.TheVariants.{BadLength, BadField}
+use Rattle.models.specs.Answers.{Whole, Unreadable}
 use Rattle.judge.specs.declared.show_faults.ShowFault.{ShowFault}
-use Rattle.judge.specs.declared.show_faults.ShowFault.TheVariants.{BadLength, BadField, OrderSize, ListTooShort, EntryFails}
+use Rattle.judge.specs.declared.show_faults.ShowFault.TheVariants.{View, OrderSize, Fill, EntryFails}
 use Rattle.judge.specs.ShowFaults.{show_fault_number, show_fault_place}
 use Rattle.judge.specs.NodeSets.{Zeros, Sets}
 
@@ -36,10 +37,9 @@ FirstFalse m bk (Some i) = LowestFalse m bk i
 
 -- In every model that the interpretation means, with whatever order, and for all books the sets of whose
 -- nodes the list has, the test tells whether the entry is live and false, or is true if it is live.
-abbrev pub TellsFailing : Interpretation → List ℕ → Line → Bool → Type 0
-TellsFailing i list l test =
-    (o : Preference) (f : Fits i o) (bk : Book) → HaveSets (meant i o f) (concepts bk.nodes) list →
-    MatchBool test ((l.live ≡ true) × (HoldsIn (meant i o f) bk l.entry → ⊥)) (l.live ≡ true → HoldsIn (meant i o f) bk l.entry)
+pub record TellsFailing (i : Interpretation) (list : List ℕ) (l : Line) (test : Bool) : Type 0 where
+  pub tells : (o : Preference) (f : Fits i o) (bk : Book) → HaveSets (meant i o f) (concepts bk.nodes) list →
+      MatchBool test ((l.live ≡ true) × (HoldsIn (meant i o f) bk l.entry → ⊥)) (l.live ≡ true → HoldsIn (meant i o f) bk l.entry)
 
 -- the lowest live entry that is false in every such model, if there is one, where the list has the sets
 abbrev pub FindsFalse : Book → Interpretation → List ℕ → Option ℕ → Type 0
@@ -52,18 +52,13 @@ Readable bs o = Whole bs × Fits (said bs) o
 
 -- Each refusal: that no earlier one fits, its reason, its number and place, and what the list holds.
 abbrev pub ShowRefused : Book → List ℕ → Preference → List ℕ → ShowFault → Type 0
-ShowRefused bk bs o list (BadLength n) =
-    (Whole bs → ⊥)
-    × (show_fault_number (BadLength n) ≡ 7) × (show_fault_place (BadLength n) ≡ length bs) × Zeros list
-ShowRefused bk bs o list (BadField k) =
-    Whole bs × LowestBad (said bs) (show_fault_place (BadField k))
-    × (show_fault_number (BadField k) ≡ 14) × Zeros list
+ShowRefused bk bs o list (View f) = Unreadable bs f × Zeros list
 ShowRefused bk bs o list (OrderSize n) =
     Whole bs × Valid (said bs) × (o.size ≢ (said bs).size)
     × (show_fault_number (OrderSize n) ≡ 16) × (show_fault_place (OrderSize n) ≡ o.size) × Zeros list
-ShowRefused bk bs o list (ListTooShort n) =
+ShowRefused bk bs o list (Fill f) =
     Readable bs o × (length list < length bk.nodes)
-    × (show_fault_number (ListTooShort n) ≡ 17) × (show_fault_place (ListTooShort n) ≡ length list) × Zeros list
+    × (show_fault_number (Fill f) ≡ 17) × (show_fault_place (Fill f) ≡ length list) × Zeros list
 ShowRefused bk bs o list (EntryFails i) =
     Readable bs o × (length bk.nodes ≤ length list) × (show_fault_number (EntryFails i) ≡ 18)
     × ((f : Fits (said bs) o) → LowestFalse (meant (said bs) o f) bk (show_fault_place (EntryFails i)) × Sets (meant (said bs) o f) bk list)
@@ -78,10 +73,10 @@ ShowAnswer bk bs o list (Err e) = ShowRefused bk bs o list e
 
 -- Each answer is given wherever it is the first that fits; len is the length of the list.
 pub record Exact (bk : Book) (bs : List ℕ) (o : Preference) (len : ℕ) (r : Result ℕ ShowFault) : Type 0 where
-  pub bad_length : (Whole bs → ⊥) → r ≡ Err (BadLength (length bs))
-  pub bad_field : (k : ℕ) → Whole bs → LowestBad (said bs) k → r ≡ Err (BadField k)
+  pub bad_length : (Whole bs → ⊥) → r ≡ Err (View (BadLength (length bs)))
+  pub bad_field : (k : ℕ) → Whole bs → LowestBad (said bs) k → r ≡ Err (View (BadField k))
   pub order_size : Whole bs → Valid (said bs) → (o.size ≢ (said bs).size) → r ≡ Err (OrderSize o.size)
-  pub list_too_short : Readable bs o → len < length bk.nodes → r ≡ Err (ListTooShort len)
+  pub list_too_short : Readable bs o → len < length bk.nodes → r ≡ Err (Fill (record { 0 = len }))
   pub entry_fails : (i : ℕ) → Whole bs → (f : Fits (said bs) o) → length bk.nodes ≤ len → LowestFalse (meant (said bs) o f) bk i → r ≡ Err (EntryFails i)
   pub accepted : Whole bs → (f : Fits (said bs) o) → length bk.nodes ≤ len → Satisfies (meant (said bs) o f) bk → r ≡ Ok (said bs).size
 

@@ -5,6 +5,7 @@ ghost use Rattle.judge.specs.NodeSets.{FillAnswer};
 use crate::lists::{Blank, clear};
 use crate::show_faults::FillFault;
 use books::book::ReadableBook;
+use logic::refusal::BadLength;
 use models::sets::extension;
 use models::view::View;
 use orders::order::Order;
@@ -18,6 +19,7 @@ impl Blank for u32 {
     }
 }
 
+// The list is lent by the caller, so it goes beside the view and is no part of it.
 // Fills the list bottom up with the set of each node, and with zeros behind; only with zeros where it has
 // not a place for each node.
 pub fn fill<B: ReadableBook, O: Order>(
@@ -31,8 +33,9 @@ pub fn fill<B: ReadableBook, O: Order>(
     clear(list);
     let count = book.node_count();
     if list.len() < count as usize {
-        return Err(FillFault::ListTooShort(list.len()));
+        return Err(BadLength(list.len()));
     }
+    // By index: the set of a node is found from the list itself, so no iterator can lend its places.
     for i in 0..count {
         list[i as usize] = extension(view, order, list, book.node_at(i));
     }

@@ -13,7 +13,7 @@ mod rule;
 pub mod show;
 pub mod show_faults;
 mod step;
-mod step_fault;
+pub mod step_fault;
 mod steps;
 pub mod used;
 pub mod watch;

@@ -1,6 +1,6 @@
 // Work on lent lists of records that have a blank: the records in front are in use, the others blank.
-ghost use Rattle.std.specs.Prelude.{◌≡◌, ◌+◌, length, replicate, nat_le, slice_index_or};
-ghost use Rattle.judge.specs.Lists.{Appended, Blanked};
+ghost use Rattle.std.specs.Prelude.{◌≡◌, ◌+◌, ◌++◌, length, take, drop, replicate, nat_le, slice_index_or, is_ok, if◌then◌else◌};
+ghost use Rattle.judge.specs.Lists.{Blanked};
 
 // A record that has a blank: zero in each field.
 pub trait Blank: Copy {
@@ -10,34 +10,37 @@ pub trait Blank: Copy {
         ensures { result ≡ zeroed };
 }
 
+// A list has not the room for more records.
+#[derive(Clone, Copy)]
+pub struct ListFull;
+
 // Record i, or a blank past the end.
 pub fn record_at<T: Blank>(list: &[T], i: usize) -> T
     ensures { result ≡ slice_index_or list.now i T.zeroed }
 {
-    if i < list.len() { list[i] } else { T::blank() }
+    list.get(i).copied().unwrap_or(T::blank())
 }
 
-// Puts records behind the first `len`, if there is room for all of them, and answers whether there is.
-pub fn append<T: Blank>(list: &mut [T], len: usize, records: &[T]) -> bool
-    ensures room { result ≡ nat_le (len + length records.now) (length list.old) }
-    ensures list { Appended result T.zeroed len records.now list.old list.new }
+// Puts records behind the first `len`, if there is room for all of them.
+pub fn append<T: Blank>(list: &mut [T], len: usize, records: &[T]) -> Result<(), ListFull>
+    ensures room { is_ok result ≡ nat_le (len + length records.now) (length list.old) }
+    ensures list { list.new ≡ (if is_ok result then take len list.old ++ (records.now ++ drop (len + length records.now) list.old) else list.old) }
 {
     let room = list.len();
     if records.len() > room || len > room - records.len() {
-        return false;
+        return Err(ListFull);
     }
-    for (i, record) in records.iter().enumerate() {
-        list[len + i] = *record;
-    }
-    true
+    list[len..len + records.len()].copy_from_slice(records);
+    Ok(())
 }
 
 // Blanks the records from `to` up to `len`, so that `to` are left in use.
 pub fn cut_back<T: Blank>(list: &mut [T], to: usize, len: usize)
     ensures { Blanked T.zeroed to len list.old list.new }
 {
-    for i in to..len.min(list.len()) {
-        list[i] = T::blank();
+    let end = len.min(list.len());
+    if to < end {
+        clear(&mut list[to..end]);
     }
 }
 
@@ -45,5 +48,5 @@ pub fn cut_back<T: Blank>(list: &mut [T], to: usize, len: usize)
 pub fn clear<T: Blank>(list: &mut [T])
     ensures { list.new ≡ replicate (length list.old) T.zeroed }
 {
-    cut_back(list, 0, list.len());
+    list.fill_with(|| T::blank());
 }

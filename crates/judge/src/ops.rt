@@ -1,8 +1,8 @@
 // The ops of a tableau.
 ghost use Rattle.std.specs.Prelude.{◌≡◌};
-ghost use Rattle.judge.specs.Ops.{op_of, operand_of};
+ghost use Rattle.judge.specs.Ops.{OpOf, operand_of};
 
-#[derive(Clone, Copy)]
+#[derive(Clone, Copy, PartialEq, Eq)]
 pub enum Op {
     // 1: a fact or a role fact of the book
     Assert,
@@ -33,7 +33,7 @@ pub enum Op {
 }
 
 // What the second operand of a step names.
-#[derive(Clone, Copy)]
+#[derive(Clone, Copy, PartialEq, Eq)]
 pub enum Operand {
     Unused,
     Label,
@@ -41,29 +41,37 @@ pub enum Operand {
     Constraint,
 }
 
-impl Op {
-    // The op of a number.
-    pub fn of(number: u8) -> Option<Op>
-        ensures { result ≡ op_of number }
-    {
+// A number that no op has.
+#[derive(Clone, Copy, PartialEq, Eq)]
+pub struct UnknownOp(pub u8);
+
+// The op of a number.
+impl TryFrom<u8> for Op {
+    type Error = UnknownOp;
+
+    ghost try_from_gives = { OpOf };
+
+    fn try_from(number: u8) -> Result<Op, UnknownOp> {
         match number {
-            1 => Some(Op::Assert),
-            2 => Some(Op::Include),
-            3 => Some(Op::Negation),
-            4 => Some(Op::Conjunction),
-            5 => Some(Op::Disjunction),
-            6 => Some(Op::Successor),
-            7 => Some(Op::AlongRole),
-            8 => Some(Op::Typical),
-            9 => Some(Op::Atypical),
-            10 => Some(Op::Better),
-            11 => Some(Op::AlongBetter),
-            12 => Some(Op::Clash),
-            13 => Some(Op::Absurd),
-            _ => None,
+            1 => Ok(Op::Assert),
+            2 => Ok(Op::Include),
+            3 => Ok(Op::Negation),
+            4 => Ok(Op::Conjunction),
+            5 => Ok(Op::Disjunction),
+            6 => Ok(Op::Successor),
+            7 => Ok(Op::AlongRole),
+            8 => Ok(Op::Typical),
+            9 => Ok(Op::Atypical),
+            10 => Ok(Op::Better),
+            11 => Ok(Op::AlongBetter),
+            12 => Ok(Op::Clash),
+            13 => Ok(Op::Absurd),
+            _ => Err(UnknownOp(number)),
         }
     }
+}
 
+impl Op {
     // What its second operand names.
     pub fn second(self) -> Operand
         ensures { result ≡ operand_of self }

@@ -1,17 +1,15 @@
 // A tableau is worked, and refutes its book or is refused.
-ghost use Rattle.std.specs.Prelude.{◌≡◌, ◌*◌, ◌≤◌, length, replicate};
-ghost use Rattle.judge.specs.Blanks.{no_constraint, no_edge, no_split, lengths};
-ghost use Rattle.judge.specs.Steps.{first_steps};
+ghost use Rattle.judge.specs.Blanks.{lengths, lengths_of, AllBlank, NoneInUse, SameLists};
+ghost use Rattle.judge.specs.Steps.{decoded};
 ghost use Rattle.judge.specs.Taking.{Worked};
 ghost use Rattle.judge.specs.Refutations.{RefuteAnswer};
 
 use crate::faults::RefuteFault;
-use crate::lists::clear;
 use crate::step::take;
-use crate::steps::{LONGEST, STEP, step_at};
+use crate::steps::{LONGEST, STEP, step_of};
 use crate::used::Used;
 use crate::watch::{Unwatched, Watch};
-use crate::working::{Counts, Split};
+use crate::working::{Counts, Lists, Split};
 use books::book::ReadableBook;
 use logic::tableau::{Constraint, Edge};
 
@@ -19,49 +17,29 @@ use logic::tableau::{Constraint, Edge};
 fn work<B: ReadableBook, W: Watch>(
     book: &B,
     bytes: &[u8],
-    steps: usize,
-    constraints: &mut [Constraint],
-    edges: &mut [Edge],
-    splits: &mut [Split],
+    lists: &mut Lists,
     watch: &mut W,
 ) -> Result<Used, RefuteFault>
-    requires fits { 5 * steps ≤ length bytes.now }
-    requires constraints_blank { constraints.old ≡ replicate (length constraints.old) no_constraint }
-    requires edges_blank { edges.old ≡ replicate (length edges.old) no_edge }
-    requires splits_blank { splits.old ≡ replicate (length splits.old) no_split }
-    ensures { Worked (B.ReadableBook.meaning book.now) (lengths constraints.old edges.old splits.old) (first_steps steps bytes.now) result }
+    requires { NoneInUse lists.old }
+    ensures same { SameLists lists.old lists.new }
+    ensures worked { Worked (B.ReadableBook.meaning book.now) (lengths_of lists.old) (decoded bytes.now) result }
 {
     let mut used = Used::new();
     let mut open = Some(Counts::start());
-    for i in 0..steps {
+    for (i, chunk) in bytes.chunks_exact(STEP).enumerate() {
         let Some(at) = open else {
             return Err(RefuteFault::AfterClosing(i));
         };
-        let step = step_at(bytes, i);
-        match take(book, step, constraints, edges, splits, at) {
-            Ok(taken) => {
-                used.note(step);
-                watch.taken(step, taken.effect, Counts::pending(taken.at));
-                open = taken.at;
-            }
-            Err(fault) => return Err(fault.at(i)),
-        }
+        let step = step_of(chunk);
+        let taken = take(book, step, lists, at).map_err(|fault| RefuteFault::AtStep(i, fault))?;
+        used.note(step);
+        watch.taken(step, taken.effect, taken.at.map_or(0, |at| at.splits));
+        open = taken.at;
     }
     match open {
-        Some(_) => Err(RefuteFault::NotClosed(steps)),
+        Some(_) => Err(RefuteFault::NotClosed(bytes.len() / STEP)),
         None => Ok(used),
     }
-}
-
-// Blanks the three lists.
-fn clear_all(constraints: &mut [Constraint], edges: &mut [Edge], splits: &mut [Split])
-    ensures constraints { constraints.new ≡ replicate (length constraints.old) no_constraint }
-    ensures edges { edges.new ≡ replicate (length edges.old) no_edge }
-    ensures splits { splits.new ≡ replicate (length splits.old) no_split }
-{
-    clear(constraints);
-    clear(edges);
-    clear(splits);
 }
 
 // Works a tableau over the book, in three lent lists, before the eyes of one who watches. It is accepted
@@ -78,21 +56,24 @@ pub fn refute_watched<B: ReadableBook, W: Watch>(
     watch: &mut W,
 ) -> Result<Used, RefuteFault>
     ensures answer { RefuteAnswer (B.ReadableBook.meaning book.now) (lengths constraints.old edges.old splits.old) bytes.now result }
-    ensures blankconstraints { constraints.new ≡ replicate (length constraints.old) no_constraint }
-    ensures blankedges { edges.new ≡ replicate (length edges.old) no_edge }
-    ensures blanksplits { splits.new ≡ replicate (length splits.old) no_split }
+    ensures blank { AllBlank (lengths constraints.old edges.old splits.old) constraints.new edges.new splits.new }
 {
-    clear_all(constraints, edges, splits);
+    let mut lists = Lists {
+        constraints,
+        edges,
+        splits,
+    };
+    lists.clear();
     let n = bytes.len();
     if n % STEP != 0 || n > LONGEST {
         return Err(RefuteFault::BadLength(n));
     }
-    let answer = work(book, bytes, n / STEP, constraints, edges, splits, watch);
-    clear_all(constraints, edges, splits);
+    let answer = work(book, bytes, &mut lists, watch);
+    lists.clear();
     answer
 }
 
-// The same, with nobody watching.
+// The same, with nobody watching. It says again what it promises, so that a reader need not look elsewhere.
 pub fn refute<B: ReadableBook>(
     book: &B,
     bytes: &[u8],
@@ -101,9 +82,7 @@ pub fn refute<B: ReadableBook>(
     splits: &mut [Split],
 ) -> Result<Used, RefuteFault>
     ensures answer { RefuteAnswer (B.ReadableBook.meaning book.now) (lengths constraints.old edges.old splits.old) bytes.now result }
-    ensures blankconstraints { constraints.new ≡ replicate (length constraints.old) no_constraint }
-    ensures blankedges { edges.new ≡ replicate (length edges.old) no_edge }
-    ensures blanksplits { splits.new ≡ replicate (length splits.old) no_split }
+    ensures blank { AllBlank (lengths constraints.old edges.old splits.old) constraints.new edges.new splits.new }
 {
     refute_watched(book, bytes, constraints, edges, splits, &mut Unwatched)
 }

@@ -1,10 +1,7 @@
 // Shows that an interpretation and an order are a model of a book.
-ghost use Rattle.std.specs.Prelude.{◌≡◌, ℕ, List, length};
-ghost use Rattle.models.specs.Interpretations.{said};
+ghost use Rattle.std.specs.Prelude.{length};
 ghost use Rattle.models.specs.Held.{held};
-ghost use Rattle.models.specs.Answers.{Whole};
-ghost use Rattle.judge.specs.NodeSets.{Zeros};
-ghost use Rattle.judge.specs.Shows.{TellsFailing, FindsFalse, ShowAnswer, ShowPromise};
+ghost use Rattle.judge.specs.Shows.{TellsFailing, FindsFalse, ShowPromise};
 
 use crate::fill::fill;
 use crate::lists::clear;
@@ -19,45 +16,14 @@ use orders::order::Order;
 fn fails(view: &View, list: &[u32], line: Line) -> bool
     ensures { TellsFailing (held view.now) list.now line result }
 {
-    if line.live {
-        !is_true(view, list, line.entry)
-    } else {
-        false
-    }
+    line.live && !is_true(view, list, line.entry)
 }
 
 // The lowest live entry that is false, where the list has the set of each node.
 pub fn first_false<B: ReadableBook>(book: &B, view: &View, list: &[u32]) -> Option<u16>
     ensures { FindsFalse (B.meaning book.now) (held view.now) list.now result }
 {
-    let count = book.entry_count();
-    for i in 0..count {
-        if fails(view, list, book.entry_at(i)) {
-            return Some(i);
-        }
-    }
-    None
-}
-
-// The answer for a view, whatever bytes say what it holds.
-fn show_view<B: ReadableBook, O: Order>(
-    book: &B,
-    view: &View,
-    order: &O,
-    list: &mut [u32],
-) -> Result<u8, ShowFault>
-    requires { Zeros list.old }
-    ensures { (bs : List ℕ) → Whole bs → held view.now ≡ said bs → ShowAnswer (B.ReadableBook.meaning book.now) bs (O.Order.meaning order.now) list.new result }
-{
-    let size = order.size();
-    if size != view.size() {
-        return Err(ShowFault::OrderSize(size));
-    }
-    fill(book, view, order, list)?;
-    match first_false(book, view, list) {
-        Some(i) => Err(ShowFault::EntryFails(i)),
-        None => Ok(size),
-    }
+    (0..book.entry_count()).find(|i| fails(view, list, book.entry_at(*i)))
 }
 
 // Whether the interpretation in the bytes, with the order as its "better", satisfies the live entries of
@@ -74,5 +40,13 @@ pub fn show<B: ReadableBook, O: Order>(
 {
     clear(list);
     let view = View::read(bytes)?;
-    show_view(book, &view, order, list)
+    let size = order.size();
+    if size != view.size() {
+        return Err(ShowFault::OrderSize(size));
+    }
+    fill(book, &view, order, list)?;
+    match first_false(book, &view, list) {
+        Some(i) => Err(ShowFault::EntryFails(i)),
+        None => Ok(size),
+    }
 }

@@ -1,48 +1,26 @@
-// Why a hand-in is not shown to be a model. Each case holds the place that is reported with it.
+// Why a hand-in is not shown to be a model: the fault of a lower call whole, or a case with the place that
+// is reported with it.
 ghost use Rattle.std.specs.Prelude.{◌≡◌};
-ghost use Rattle.judge.specs.ShowFaults.{fill_fault_number, fill_fault_place, show_fault_number, show_fault_place, show_of_view, show_of_fill};
+ghost use Rattle.judge.specs.ShowFaults.{show_fault_number, show_fault_place};
+ghost use Rattle.judge.specs.declared.show_faults.ShowFault.TheVariants.{View, Fill};
 
-use logic::refusal::Refusal;
+use logic::refusal::{BadLength, Refusal};
 use models::faults::ViewFault;
 
-#[derive(Clone, Copy)]
-pub enum FillFault {
-    // with the length of the list
-    ListTooShort(usize),
-}
+// A list that has not a place for each node: 17, with its length.
+pub type FillFault = BadLength<17>;
 
 #[derive(Clone, Copy)]
 pub enum ShowFault {
-    // with the length of the interpretation
-    BadLength(usize),
-    // with the first byte of the lowest bad field
-    BadField(u16),
+    View(ViewFault),
     // with the size of the order
     OrderSize(u8),
-    // with the length of the list
-    ListTooShort(usize),
+    Fill(FillFault),
     // with the lowest live entry that is false
     EntryFails(u16),
 }
 
-impl Refusal for FillFault {
-    ghost numbered = { fill_fault_number };
-
-    ghost placed = { fill_fault_place };
-
-    fn number(&self) -> u8 {
-        match self {
-            FillFault::ListTooShort(_) => 17,
-        }
-    }
-
-    fn place(&self) -> usize {
-        match *self {
-            FillFault::ListTooShort(length) => length,
-        }
-    }
-}
-
+// The number and the place of a lower fault are its own.
 impl Refusal for ShowFault {
     ghost numbered = { show_fault_number };
 
@@ -50,43 +28,36 @@ impl Refusal for ShowFault {
 
     fn number(&self) -> u8 {
         match self {
-            ShowFault::BadLength(_) => 7,
-            ShowFault::BadField(_) => 14,
+            ShowFault::View(fault) => fault.number(),
             ShowFault::OrderSize(_) => 16,
-            ShowFault::ListTooShort(_) => 17,
+            ShowFault::Fill(fault) => fault.number(),
             ShowFault::EntryFails(_) => 18,
         }
     }
 
     fn place(&self) -> usize {
-        match *self {
-            ShowFault::BadLength(length) => length,
-            ShowFault::BadField(at) => at as usize,
-            ShowFault::OrderSize(size) => size as usize,
-            ShowFault::ListTooShort(length) => length,
-            ShowFault::EntryFails(i) => i as usize,
+        match self {
+            ShowFault::View(fault) => fault.place(),
+            ShowFault::OrderSize(size) => *size as usize,
+            ShowFault::Fill(fault) => fault.place(),
+            ShowFault::EntryFails(i) => *i as usize,
         }
     }
 }
 
-// The same fault, as one of show.
+// One impl for each: derived ones have no `from_gives`, by which a clause reads what a `?` makes.
 impl From<ViewFault> for ShowFault {
-    ghost from_gives = { λ f g. g ≡ show_of_view f };
+    ghost from_gives = { λ f g. g ≡ View f };
 
     fn from(fault: ViewFault) -> ShowFault {
-        match fault {
-            ViewFault::BadLength(length) => ShowFault::BadLength(length),
-            ViewFault::BadField(at) => ShowFault::BadField(at),
-        }
+        ShowFault::View(fault)
     }
 }
 
 impl From<FillFault> for ShowFault {
-    ghost from_gives = { λ f g. g ≡ show_of_fill f };
+    ghost from_gives = { λ f g. g ≡ Fill f };
 
     fn from(fault: FillFault) -> ShowFault {
-        match fault {
-            FillFault::ListTooShort(length) => ShowFault::ListTooShort(length),
-        }
+        ShowFault::Fill(fault)
     }
 }

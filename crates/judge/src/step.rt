@@ -1,21 +1,20 @@
 // One step of a tableau.
-ghost use Rattle.std.specs.Prelude.{◌≡◌, List};
+ghost use Rattle.std.specs.Prelude.{◌≡◌};
 ghost use Rattle.logic.specs.Branches.{Branch};
-ghost use Rattle.judge.specs.Blanks.{no_constraint, no_edge, lengths};
-ghost use Rattle.judge.specs.Lists.{Listed};
+ghost use Rattle.judge.specs.Blanks.{SameLists, lengths_of};
 ghost use Rattle.judge.specs.Ops.{there};
 ghost use Rattle.judge.specs.Decisions.{by_entry, by_constraint, decision};
-ghost use Rattle.judge.specs.Shown.{Counted, Pending, Shown, Sound};
+ghost use Rattle.judge.specs.Shown.{Counted, State, Holds, Sound};
 ghost use Rattle.judge.specs.Taking.{Took};
 
-use crate::effect::{Effect, apply};
+use crate::effect::Effect;
 use crate::lists::record_at;
 use crate::ops::{Op, Operand};
 use crate::rule::{cite, expand};
 use crate::step_fault::StepFault;
-use crate::working::{Counts, Split};
+use crate::working::{Counts, Lists};
 use books::book::ReadableBook;
-use logic::tableau::{Constraint, Edge, Step};
+use logic::tableau::Step;
 
 // A step that was taken: its effect, and how much of the lists is in use then; nothing, where the last
 // branch is closed.
@@ -59,20 +58,19 @@ fn by_constraint<B: ReadableBook>(
     book: &B,
     op: Op,
     step: Step,
+    lists: &Lists,
     at: Counts,
-    constraints: &[Constraint],
-    edges: &[Edge],
 ) -> Result<Effect, StepFault>
-    ensures { (br : Branch) → Counted at br → Listed no_constraint constraints.now at.constraints br.constraints → Listed no_edge edges.now at.edges br.edges → result ≡ by_constraint (B.meaning book.now) br op step }
+    ensures { (σ : State) → Holds lists.now at σ → result ≡ by_constraint (B.meaning book.now) σ.branch op step }
 {
     let a = step.a as usize;
     let b = step.b as usize;
     if a >= at.constraints || !present(op.second(), step.b, at) {
         return Err(StepFault::NotThere);
     }
-    let c = record_at(constraints, a);
-    let edge = record_at(edges, b);
-    let other = record_at(constraints, b);
+    let c = record_at(lists.constraints, a);
+    let edge = record_at(lists.edges, b);
+    let other = record_at(lists.constraints, b);
     expand(op, c, book.node_at(c.node), edge, other, at.labels).ok_or(StepFault::Misfit)
 }
 
@@ -80,21 +78,20 @@ fn by_constraint<B: ReadableBook>(
 fn decide<B: ReadableBook>(
     book: &B,
     step: Step,
+    lists: &Lists,
     at: Counts,
-    constraints: &[Constraint],
-    edges: &[Edge],
 ) -> Result<Effect, StepFault>
-    ensures { (br : Branch) → Counted at br → Listed no_constraint constraints.now at.constraints br.constraints → Listed no_edge edges.now at.edges br.edges → result ≡ decision (B.meaning book.now) br step }
+    ensures { (σ : State) → Holds lists.now at σ → result ≡ decision (B.meaning book.now) σ.branch step }
 {
-    let Some(op) = Op::of(step.op) else {
+    let Ok(op) = Op::try_from(step.op) else {
         return Err(StepFault::Malformed);
     };
-    if matches!(op.second(), Operand::Unused) && step.b != 0 {
+    if op.second() == Operand::Unused && step.b != 0 {
         return Err(StepFault::Malformed);
     }
     match op {
         Op::Assert | Op::Include => by_entry(book, op, step, at),
-        _ => by_constraint(book, op, step, at, constraints, edges),
+        _ => by_constraint(book, op, step, lists, at),
     }
 }
 
@@ -102,17 +99,14 @@ fn decide<B: ReadableBook>(
 pub(crate) fn take<B: ReadableBook>(
     book: &B,
     step: Step,
-    constraints: &mut [Constraint],
-    edges: &mut [Edge],
-    splits: &mut [Split],
+    lists: &mut Lists,
     at: Counts,
 ) -> Result<Taken, StepFault>
-    requires { Sound at constraints.old edges.old splits.old }
-    ensures { (br : Branch) (ps : List Pending) → Shown br ps at constraints.old edges.old splits.old → Took (B.meaning book.now) (lengths constraints.old edges.old splits.old) (λ n σ. Shown σ.branch σ.pending n constraints.new edges.new splits.new) br ps step result }
+    requires { Sound lists.old at }
+    ensures same { SameLists lists.old lists.new }
+    ensures took { (σ : State) → Holds lists.old at σ → Took (B.meaning book.now) (lengths_of lists.old) (Holds lists.new) σ.branch σ.pending step result }
 {
-    let effect = decide(book, step, at, constraints, edges)?;
-    match apply(effect, constraints, edges, splits, at) {
-        Ok(at) => Ok(Taken { effect, at }),
-        Err(fault) => Err(fault),
-    }
+    let effect = decide(book, step, lists, at)?;
+    let at = lists.apply(effect, at)?;
+    Ok(Taken { effect, at })
 }

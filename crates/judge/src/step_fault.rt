@@ -1,31 +1,44 @@
 // Why a step is refused on an open branch.
 ghost use Rattle.std.specs.Prelude.{◌≡◌};
-ghost use Rattle.judge.specs.Faults.{fault_at};
+ghost use Rattle.judge.specs.declared.step_fault.StepFault.TheVariants.{Full};
+ghost use Rattle.judge.specs.Faults.{step_fault_number};
 
-use crate::faults::RefuteFault;
+use crate::lists::ListFull;
 
 #[derive(Clone, Copy)]
-pub(crate) enum StepFault {
+pub enum StepFault {
+    // an unknown op, or an unused operand that is not 0
     Malformed,
+    // no entry has the number
     NeverEntered,
+    // the branch has no such constraint, edge or label
     NotThere,
+    // the entry is struck
     Struck,
+    // the op does not fit
     Misfit,
+    // a list would overflow, or a label is above 255
     Full,
 }
 
-impl StepFault {
-    // The refusal of step i.
-    pub(crate) fn at(self, i: usize) -> RefuteFault
-        ensures { result ≡ fault_at self i }
-    {
-        match self {
-            StepFault::Malformed => RefuteFault::Malformed(i),
-            StepFault::NeverEntered => RefuteFault::NeverEntered(i),
-            StepFault::NotThere => RefuteFault::NotThere(i),
-            StepFault::Struck => RefuteFault::Struck(i),
-            StepFault::Misfit => RefuteFault::Misfit(i),
-            StepFault::Full => RefuteFault::Full(i),
+// The number of a refusal for this fault.
+impl From<StepFault> for u8 {
+    ghost from_gives = { λ fault n. n ≡ step_fault_number fault };
+
+    fn from(fault: StepFault) -> u8 {
+        match fault {
+            StepFault::Malformed => 8,
+            StepFault::NeverEntered | StepFault::NotThere | StepFault::Struck => 9,
+            StepFault::Misfit => 10,
+            StepFault::Full => 11,
         }
+    }
+}
+
+impl From<ListFull> for StepFault {
+    ghost from_gives = { λ _ fault. fault ≡ Full };
+
+    fn from(_: ListFull) -> StepFault {
+        StepFault::Full
     }
 }

@@ -1,6 +1,6 @@
 // Steps in bytes: five for each, the op and then the operands, low byte first.
-ghost use Rattle.std.specs.Prelude.{◌≡◌, ◌+◌, ◌*◌, ◌≤◌, length};
-ghost use Rattle.judge.specs.Steps.{pair_at, step_at};
+ghost use Rattle.std.specs.Prelude.{◌≡◌, length};
+ghost use Rattle.judge.specs.Steps.{step_at};
 
 use logic::tableau::Step;
 
@@ -10,23 +10,14 @@ pub(crate) const STEP: usize = 5;
 // The bytes of the 8,192 steps that a tableau has at most.
 pub(crate) const LONGEST: usize = 40960;
 
-// The number in the two bytes from `p` on.
-fn pair_at(bytes: &[u8], p: usize) -> u16
-    requires { p + 2 ≤ length bytes.now }
-    ensures { result ≡ pair_at bytes.now p }
+// The step in five bytes.
+pub(crate) fn step_of(bytes: &[u8]) -> Step
+    requires { length bytes.now ≡ 5 }
+    ensures { result ≡ step_at bytes.now 0 }
 {
-    bytes[p] as u16 + 256 * bytes[p + 1] as u16
-}
-
-// Step i.
-pub(crate) fn step_at(bytes: &[u8], i: usize) -> Step
-    requires { 5 * i + 5 ≤ length bytes.now }
-    ensures { result ≡ step_at bytes.now i }
-{
-    let p = STEP * i;
     Step {
-        op: bytes[p],
-        a: pair_at(bytes, p + 1),
-        b: pair_at(bytes, p + 3),
+        op: bytes[0],
+        a: u16::from_le_bytes([bytes[1], bytes[2]]),
+        b: u16::from_le_bytes([bytes[3], bytes[4]]),
     }
 }

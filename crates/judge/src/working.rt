@@ -1,9 +1,14 @@
 // The working lists of a tableau: constraints, edges and pending splits.
 ghost use Rattle.std.specs.Prelude.{◌≡◌};
-ghost use Rattle.judge.specs.Blanks.{no_constraint, no_edge, no_split};
+ghost use Rattle.judge.specs.Blanks.{no_constraint, no_edge, no_split, NoneInUse, SameLists};
+ghost use Rattle.judge.specs.Shown.{labelled};
 
-use crate::lists::Blank;
+use crate::lists::{Blank, clear};
+use crate::step_fault::StepFault;
 use logic::tableau::{Constraint, Edge, Form};
+
+// How many labels a branch may have.
+const LABELS: u16 = 256;
 
 // A pending split: the counts to go back to, and the alternative that is still to be worked.
 #[derive(Clone, Copy)]
@@ -12,6 +17,14 @@ pub struct Split {
     pub edges: usize,
     pub labels: u16,
     pub second: Constraint,
+}
+
+// The three lists, as they are lent.
+#[derive(Drop)]
+pub(crate) struct Lists<'a> {
+    pub(crate) constraints: &'a mut [Constraint],
+    pub(crate) edges: &'a mut [Edge],
+    pub(crate) splits: &'a mut [Split],
 }
 
 // How many records of each list are in use, and how many labels there are.
@@ -36,12 +49,30 @@ impl Counts {
         }
     }
 
-    // How many splits are pending; none, where all is closed.
-    pub(crate) fn pending(at: Option<Counts>) -> usize {
-        match at {
-            Some(counts) => counts.splits,
-            None => 0,
+    // One label more, if there may be one.
+    pub(crate) fn with_label(self) -> Result<Counts, StepFault>
+        ensures { result ≡ labelled self }
+    {
+        if self.labels < LABELS {
+            Ok(Counts {
+                labels: self.labels + 1,
+                ..self
+            })
+        } else {
+            Err(StepFault::Full)
         }
+    }
+}
+
+impl Lists<'_> {
+    // Blanks the three lists.
+    pub(crate) fn clear(&mut self)
+        ensures same { SameLists self.old self.new }
+        ensures blank { NoneInUse self.new }
+    {
+        clear(self.constraints);
+        clear(self.edges);
+        clear(self.splits);
     }
 }
 

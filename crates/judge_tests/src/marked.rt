@@ -2,32 +2,20 @@
 use books::book::{EditableBook, ReadableBook};
 use books::sample;
 use books::slot_table::SlotTable;
-use books::write::{write_entries, write_nodes};
+use books::write::write_all;
 use judge::show::show;
-use logic::refusal::Refusal;
+use logic::refusal::told;
 use orders::order::Order;
 use std::alloc::{AllocError, Global};
 
-#[derive(Clone, Copy, PartialEq, Eq, Debug)]
-pub enum Verdict {
-    Satisfied(u8),
-    Refused(u8, usize),
-}
-
-pub(crate) fn refused<F: Refusal>(fault: &F) -> Verdict {
-    Verdict::Refused(fault.number(), fault.place())
-}
-
+// What show answered, with a refusal by its number and its place.
 pub(crate) fn shown<B: ReadableBook, O: Order>(
     book: &B,
     bytes: &[u8],
     order: &O,
     list: &mut [u32],
-) -> Verdict {
-    match show(book, bytes, order, list) {
-        Ok(n) => Verdict::Satisfied(n),
-        Err(fault) => refused(&fault),
-    }
+) -> Result<u8, (u8, usize)> {
+    show(book, bytes, order, list).map_err(|fault| told(&fault))
 }
 
 pub(crate) fn empty_book(heap: Global) -> Result<SlotTable, AllocError> {
@@ -36,7 +24,7 @@ pub(crate) fn empty_book(heap: Global) -> Result<SlotTable, AllocError> {
 
 pub(crate) fn sample_book(heap: Global) -> Result<SlotTable, AllocError> {
     let mut book: SlotTable = EditableBook::new(heap)?;
-    let _ = write_nodes(&mut book, &sample::NODES);
-    let _ = write_entries(&mut book, &sample::ENTRIES);
+    let _ = write_all(&mut book, &sample::NODES);
+    let _ = write_all(&mut book, &sample::ENTRIES);
     Ok(book)
 }

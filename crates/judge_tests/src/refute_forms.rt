@@ -1,5 +1,5 @@
 // Every op on every form and kind of node.
-use crate::refuted::{Answer, Room, add_step, judged};
+use crate::refuted::{Room, add_step, judged};
 use books::book::EditableBook;
 use books::slot_table::SlotTable;
 use logic::records::{RawEntry, RawNode};
@@ -7,25 +7,15 @@ use std::alloc::{AllocError, Global};
 use std::process::Abort;
 use std::test::Fail;
 
-// Kind and operands of nodes 0 to 8: a name, top, bottom, not, and, or, all, some and T, of the name.
-const KINDS: [(u8, u16, u16); 9] = [
-    (2, 0, 0),
-    (0, 0, 0),
-    (1, 0, 0),
-    (3, 0, 0),
-    (4, 0, 0),
-    (5, 0, 0),
-    (6, 0, 0),
-    (7, 0, 0),
-    (8, 0, 0),
-];
+// The kinds of nodes 0 to 8: a name, top, bottom, not, and, or, all, some and T, of the name.
+const KINDS: [u8; 9] = [2, 0, 1, 3, 4, 5, 6, 7, 8];
 
 // Individual 0 holds each of the nodes, and the negation of each, which are nodes 9 to 17. Role 0 leads
 // from individual 0 to 1.
 fn book_of_all_kinds(rt: &impl Abort, heap: Global) -> Result<SlotTable, Fail> {
     let mut book: SlotTable = EditableBook::new(heap)?;
-    for (kind, a, b) in KINDS {
-        assert!(rt; book.node(RawNode { kind, a, b }).is_ok());
+    for kind in KINDS {
+        assert!(rt; book.node(RawNode { kind, a: 0, b: 0 }).is_ok());
     }
     for a in 0..9 {
         let not = RawNode { kind: 3, a, b: 0 };
@@ -70,6 +60,7 @@ fn branch_of_all_forms(heap: Global) -> Result<Vec<u8>, AllocError> {
 // The number of steps of that branch.
 const STEPS: usize = 32;
 
+// By number, as hand-ins write them: the table is apart from the crate's own types.
 // Operand b at which an op can fit: edge 0, edge 1, or the constraint that fails the name.
 fn operand(op: u8) -> u16 {
     match op {
@@ -82,20 +73,20 @@ fn operand(op: u8) -> u16 {
 
 // Whether the op fits constraint a.
 fn fits(op: u8, a: u16) -> bool {
-    match (op, a) {
-        (3, 3 | 9..=17 | 21) => true,
-        (4, 4 | 23) => true,
-        (5, 5 | 22) => true,
-        (6, 7 | 24) => true,
-        (7, 6 | 25) => true,
-        (8, 8) => true,
-        (9, 26) => true,
-        (10, 29) => true,
-        (11, 28) => true,
-        (12, 0 | 27) => true,
-        (13, 2 | 19) => true,
-        _ => false,
-    }
+    matches!(
+        (op, a),
+        (3, 3 | 9..=17 | 21)
+            | (4, 4 | 23)
+            | (5, 5 | 22)
+            | (6, 7 | 24)
+            | (7, 6 | 25)
+            | (8, 8)
+            | (9, 26)
+            | (10, 29)
+            | (11, 28)
+            | (12, 0 | 27)
+            | (13, 2 | 19)
+    )
 }
 
 #[test]
@@ -112,8 +103,7 @@ fn an_op_fits_its_row_alone(rt: HostRuntime) -> Result<(), Fail> {
             let mut bytes = branch_of_all_forms(heap)?;
             add_step(&mut bytes, op, a, operand(op))?;
             let answer = judged(heap, &book, &bytes, room)?;
-            let misfit = Answer::Refused(10, STEPS);
-            assert_eq!(rt; answer == misfit, !fits(op, a));
+            assert_eq!(rt; answer == Err((10, STEPS)), !fits(op, a));
         }
     }
     Ok(())
@@ -147,7 +137,7 @@ fn operands(rt: HostRuntime) -> Result<(), Fail> {
         let mut bytes = branch_of_all_forms(heap)?;
         add_step(&mut bytes, op, a, b)?;
         let answer = judged(heap, &book, &bytes, room)?;
-        assert_eq!(rt; answer, Answer::Refused(number, STEPS));
+        assert_eq!(rt; answer, Err((number, STEPS)));
     }
     Ok(())
 }

@@ -1,5 +1,5 @@
 // The rows of the sample book.
-use crate::refuted::{Answer, Room, book_of, judged};
+use crate::refuted::{Room, book_of, judged};
 use books::book::EditableBook;
 use books::sample;
 use judge::lists::Blank;
@@ -42,24 +42,12 @@ fn four_entries_are_used(rt: HostRuntime) -> Result<(), Fail> {
     let heap = rt.alloc();
     let mut book = book_of(&rt, heap, &sample::NODES, &sample::ENTRIES)?;
     assert!(rt; book.enter(MORE).is_ok());
-    assert_eq!(rt;
-        judged(heap, &book, CLOSING, room(5, 1))?,
-        Answer::Closed(4)
-    );
-    assert_eq!(rt;
-        judged(heap, &book, CLOSING, room(4, 1))?,
-        Answer::Refused(11, 6)
-    );
-    assert_eq!(rt;
-        judged(heap, &book, CLOSING, room(5, 0))?,
-        Answer::Refused(11, 2)
-    );
+    assert_eq!(rt; judged(heap, &book, CLOSING, room(5, 1))?, Ok(4));
+    assert_eq!(rt; judged(heap, &book, CLOSING, room(4, 1))?, Err((11, 6)));
+    assert_eq!(rt; judged(heap, &book, CLOSING, room(5, 0))?, Err((11, 2)));
     // a struck entry, and one that was never entered
     assert!(rt; book.strike(3).is_ok());
-    assert_eq!(rt;
-        judged(heap, &book, CLOSING, room(5, 1))?,
-        Answer::Refused(9, 1)
-    );
+    assert_eq!(rt; judged(heap, &book, CLOSING, room(5, 1))?, Err((9, 1)));
     Ok(())
 }
 
@@ -67,14 +55,8 @@ fn four_entries_are_used(rt: HostRuntime) -> Result<(), Fail> {
 fn wrong_hand_in(rt: HostRuntime) -> Result<(), Fail> {
     let heap = rt.alloc();
     let book = book_of(&rt, heap, &sample::NODES, &sample::ENTRIES)?;
-    assert_eq!(rt;
-        judged(heap, &book, WRONG, room(7, 2))?,
-        Answer::Refused(10, 6)
-    );
-    assert_eq!(rt;
-        judged(heap, &book, CLOSING, room(5, 1))?,
-        Answer::Refused(9, 1)
-    );
+    assert_eq!(rt; judged(heap, &book, WRONG, room(7, 2))?, Err((10, 6)));
+    assert_eq!(rt; judged(heap, &book, CLOSING, room(5, 1))?, Err((9, 1)));
     Ok(())
 }
 
@@ -90,20 +72,18 @@ fn the_set_and_the_lists(rt: HostRuntime) -> Result<(), Fail> {
         node: 7,
     }; 5];
     let mut splits = [Split::blank(); 1];
-    let used = refute(&book, CLOSING, &mut constraints, &mut [], &mut splits);
-    for c in &constraints {
-        assert_eq!(rt; c.label, 0);
-        assert_eq!(rt; c.form.number(), 0);
-        assert_eq!(rt; c.node, 0);
+    let used = refute(&book, CLOSING, &mut constraints, &mut [], &mut splits).map_err(|_| Fail::new(
+        "refused",
+    ))?;
+    let blank = Constraint {
+        label: 0,
+        form: Form::Holds,
+        node: 0,
+    };
+    assert!(rt; constraints == [blank; 5]);
+    assert_eq!(rt; used.count(), 4);
+    for i in 0..300u16 {
+        assert_eq!(rt; used.has(i), i < 4);
     }
-    match used {
-        Ok(used) => {
-            assert_eq!(rt; used.count(), 4);
-            for i in 0..300u16 {
-                assert_eq!(rt; used.has(i), i < 4);
-            }
-            Ok(())
-        }
-        Err(_) => Err(Fail::new("refused")),
-    }
+    Ok(())
 }

@@ -1,23 +1,19 @@
 // What refute answered, in numbers that can be compared.
 use books::book::{EditableBook, ReadableBook};
 use books::slot_table::SlotTable;
-use books::write::{write_entries, write_nodes};
+use books::write::write_all;
 use judge::lists::Blank;
 use judge::refute::refute;
 use judge::working::Split;
 use logic::records::{RawEntry, RawNode};
-use logic::refusal::Refusal;
+use logic::refusal::told;
 use logic::tableau::{Constraint, Edge};
 use std::alloc::{AllocError, Global};
 use std::process::Abort;
 use std::test::Fail;
 
-#[derive(Clone, Copy, PartialEq, Eq, Debug)]
-pub enum Answer {
-    // with the number of entries used
-    Closed(u16),
-    Refused(u8, usize),
-}
+// The number of entries used, or the number and the place of the refusal.
+pub(crate) type Answer = Result<u16, (u8, usize)>;
 
 // How long the three lists are.
 #[derive(Clone, Copy)]
@@ -37,11 +33,12 @@ pub(crate) fn judged<B: ReadableBook>(
     let mut constraints = vec![in heap; Constraint::blank(); room.constraints]?;
     let mut edges = vec![in heap; Edge::blank(); room.edges]?;
     let mut splits = vec![in heap; Split::blank(); room.splits]?;
-    let answer = match refute(book, bytes, &mut constraints, &mut edges, &mut splits) {
-        Ok(used) => Answer::Closed(used.count()),
-        Err(fault) => Answer::Refused(fault.number(), fault.place()),
-    };
-    Ok(answer)
+    let answer = refute(book, bytes, &mut constraints, &mut edges, &mut splits);
+    Ok(
+        answer
+            .map(|used| used.count())
+            .map_err(|fault| told(&fault)),
+    )
 }
 
 // Writes a step behind others.
@@ -59,7 +56,7 @@ pub(crate) fn book_of(
     entries: &[RawEntry],
 ) -> Result<SlotTable, Fail> {
     let mut book: SlotTable = EditableBook::new(heap)?;
-    assert!(rt; write_nodes(&mut book, nodes).is_ok());
-    assert!(rt; write_entries(&mut book, entries).is_ok());
+    assert!(rt; write_all(&mut book, nodes).is_ok());
+    assert!(rt; write_all(&mut book, entries).is_ok());
     Ok(book)
 }

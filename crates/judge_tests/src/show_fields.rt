@@ -1,11 +1,11 @@
 // Interpretations with a field that is bad: its first byte is answered.
-use crate::marked::{Verdict, empty_book, shown};
+use crate::marked::{empty_book, shown};
 use books::slot_table::SlotTable;
 use orders::ranks::Ranks;
 use std::test::Fail;
 
 // Two elements, and one byte changed.
-fn changed(book: &SlotTable, order: &Ranks, at: usize, byte: u8) -> Verdict {
+fn changed(book: &SlotTable, order: &Ranks, at: usize, byte: u8) -> Result<u8, (u8, usize)> {
     let mut bytes = [0; 2337];
     bytes[0] = 2;
     if at < 2337 {
@@ -18,15 +18,9 @@ fn changed(book: &SlotTable, order: &Ranks, at: usize, byte: u8) -> Verdict {
 fn lengths(rt: HostRuntime) -> Result<(), Fail> {
     let book = empty_book(rt.alloc())?;
     let order = Ranks::new();
-    assert_eq!(rt; shown(&book, &[], &order, &mut []), Verdict::Refused(7, 0));
-    assert_eq!(rt;
-        shown(&book, &[1; 2336], &order, &mut []),
-        Verdict::Refused(7, 2336)
-    );
-    assert_eq!(rt;
-        shown(&book, &[1; 2338], &order, &mut []),
-        Verdict::Refused(7, 2338)
-    );
+    assert_eq!(rt; shown(&book, &[], &order, &mut []), Err((7, 0)));
+    assert_eq!(rt; shown(&book, &[1; 2336], &order, &mut []), Err((7, 2336)));
+    assert_eq!(rt; shown(&book, &[1; 2338], &order, &mut []), Err((7, 2338)));
     Ok(())
 }
 
@@ -38,11 +32,8 @@ fn every_mask(rt: HostRuntime) -> Result<(), Fail> {
     let _ = order.fill(&[0, 0]);
     for i in 0..576 {
         let at = 1 + 4 * i;
-        assert_eq!(rt; changed(&book, &order, at, 4), Verdict::Refused(14, at));
-        assert_eq!(rt;
-            changed(&book, &order, at + 3, 128),
-            Verdict::Refused(14, at)
-        );
+        assert_eq!(rt; changed(&book, &order, at, 4), Err((14, at)));
+        assert_eq!(rt; changed(&book, &order, at + 3, 128), Err((14, at)));
     }
     Ok(())
 }
@@ -55,11 +46,7 @@ fn every_role(rt: HostRuntime) -> Result<(), Fail> {
     let _ = order.fill(&[0, 0]);
     for i in 0..512 {
         let at = 257 + 4 * i;
-        let verdict = if i % 32 < 2 {
-            Verdict::Satisfied(2)
-        } else {
-            Verdict::Refused(14, at)
-        };
+        let verdict = if i % 32 < 2 { Ok(2) } else { Err((14, at)) };
         assert_eq!(rt; changed(&book, &order, at, 1), verdict);
     }
     Ok(())
@@ -72,8 +59,8 @@ fn every_individual(rt: HostRuntime) -> Result<(), Fail> {
     let _ = order.fill(&[0, 0]);
     for a in 0..32 {
         let at = 2305 + a;
-        assert_eq!(rt; changed(&book, &order, at, 1), Verdict::Satisfied(2));
-        assert_eq!(rt; changed(&book, &order, at, 2), Verdict::Refused(14, at));
+        assert_eq!(rt; changed(&book, &order, at, 1), Ok(2));
+        assert_eq!(rt; changed(&book, &order, at, 2), Err((14, at)));
     }
     Ok(())
 }

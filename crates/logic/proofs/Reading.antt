@@ -1,7 +1,7 @@
 -- The concepts of a list of nodes: how many there are, what one node more adds, what stays, and what
 -- the concept of a node is made of. Assumes nothing.
 use Rattle.std.proofs.Common.{◌≡◌, ℕ, zero, suc, ◌+◌, ◌<◌, true, ltb, List, [], ◌∷◌, ◌++◌, map, length, get_or, sym, refl, ap, ◌∙◌, subst, zero-add, arith}
-use Rattle.std.proofs.lemmas.List.{length_push, length-map, map-append, get_or_append_left, get_or_past, get_or_push}
+use Rattle.std.proofs.lemmas.List.{length_push, map-append, get_or_append_left, get_or_past, get_or_push}
 use Rattle.std.proofs.lemmas.Bool.{and_parts, ltb-true}
 use Rattle.logic.specs.declared.records.Node.{Node}
 use Rattle.logic.specs.declared.records.Node.TheVariants as node
@@ -39,9 +39,6 @@ concepts_stay ns ms i h =
 -- the mark of one node more
 pub plain_marks-push : (ns : List Node) (n : Node) → plain_marks (ns ++ n ∷ []) ≡ plain_marks ns ++ plain (read (concepts ns) n) ∷ []
 plain_marks-push ns n = ap (map plain) (concepts-push ns n) ∙ map-append plain (concepts ns) (read (concepts ns) n ∷ [])
-
-pub length-plain_marks : (ns : List Node) → length (plain_marks ns) ≡ length ns
-length-plain_marks ns = length-map (concepts ns) plain ∙ length-concepts ns
 
 -- what the marks say at a place, past the end too
 pub plain_mark_at : (cs : List Concept) (i : ℕ) → get_or (map plain cs) i true ≡ plain (of cs i)

@@ -1,5 +1,5 @@
 -- A record is granted exactly when the book can take it and stay lawful. Assumes nothing.
-use Rattle.std.proofs.Common.{◌≡◌, ℕ, zero, suc, ◌+◌, Bool, true, false, cond, not, ◌&&◌, eqb, leb, [], ◌∷◌, ◌++◌, length, get_or, sym, refl, ap, ◌∙◌, subst, arith}
+use Rattle.std.proofs.Common.{◌≡◌, ℕ, zero, suc, ◌+◌, Bool, true, false, cond, ◌&&◌, eqb, leb, [], ◌∷◌, ◌++◌, length, get_or, sym, refl, ap, ◌∙◌, subst, arith}
 use Rattle.std.specs.List.{AllByRecursion}
 use Rattle.std.proofs.lemmas.List.{length_push, get_or_push}
 use Rattle.std.proofs.ByRecursion.{All-get_or}
@@ -12,18 +12,17 @@ use Rattle.logic.specs.declared.records.Entry.{Entry}
 use Rattle.logic.specs.declared.records.Entry.TheVariants as entry
 use Rattle.logic.specs.declared.records.RawEntry.{RawEntry}
 use Rattle.logic.specs.declared.records.Line.{Line}
-use Rattle.logic.specs.Written.{node_kind, node_a, node_b, node_of, entry_kind, entry_a, entry_b, entry_c, entry_of}
+use Rattle.logic.specs.Written.{node_kind, node_a, node_b, node_of, entry_kind, entry_a, entry_b, entry_c, entry_of, WritesNode, WritesEntry}
 use Rattle.logic.specs.Concepts.{concepts}
 use Rattle.logic.specs.Books.{Book, node_at, no_line, with_node, with_entry}
 use Rattle.logic.specs.Lawful.{Lawful, node_known, node_within_limits, node_operands_below, node_well_formed, node_placed, entry_known, entry_within_limits, entry_operands_below, entry_well_formed, entry_placed}
-use Rattle.logic.specs.Refusals.{node_unused_zero, node_refusal, entry_unused_zero, entry_refusal, WritesNode, WritesEntry, NodeFits, EntryFits}
+use Rattle.logic.specs.Refusals.{first_unfit, node_unused_zero, node_refusal, entry_unused_zero, entry_refusal, NodeFits, EntryFits}
 use Rattle.logic.proofs.Reading.{concepts_stay}
 use Rattle.logic.proofs.Lawfulness.{node_parts, entry_parts, node_placed_alike, lawful_with_node, lawful_with_line}
 
--- five tests in a row
+-- the limit, and four tests in a row
 abbrev first_failed : Bool → Bool → Bool → Bool → Bool → ℕ
-first_failed full known range there placed =
-    cond full 1 (cond (not known) 2 (cond (not range) 3 (cond (not there) 4 (cond (not placed) 5 0))))
+first_failed full known range there placed = cond full 1 (first_unfit known range there placed)
 
 record Passed (full known range there placed : Bool) : Type 0 where
   room : full ≡ false

@@ -8,6 +8,8 @@ pub mod Books
 pub mod Lawful
 -- why an offered record is refused
 pub mod Refusals
+-- a refused length
+pub mod Lengths
 -- preferential models
 pub mod Models
 -- the models of a book

@@ -1,57 +1,49 @@
 -- Why a book refuses an offered node or entry, by the number of the first test that fails, and 0
 -- where none does; and what it means to be granted.
--- node_refusal, entry_refusal: the tests in their order. NodeFits, EntryFits: when a book can take
--- the offered record and stay lawful.
+-- first_unfit: the tests in their order. node_unfit, entry_unfit: the tests of an offered record.
+-- node_refusal, entry_refusal: the same, the limit first.
+-- NodeFits, EntryFits: when a book can take the offered record and stay lawful.
 -- Assumes nothing.
-use Rattle.std.specs.Prelude.{◌≡◌, ℕ, Bool, cond, not, ◌&&◌, length, ◌==◌, nat_le}
+use Rattle.std.specs.Prelude.{ℕ, Bool, cond, not, ◌&&◌, length, ◌==◌, nat_le}
 use Rattle.logic.specs.declared.records.Node.{Node}
 use Rattle.logic.specs.declared.records.RawNode.{RawNode}
 use Rattle.logic.specs.declared.records.Entry.{Entry}
 use Rattle.logic.specs.declared.records.RawEntry.{RawEntry}
-use Rattle.logic.specs.Written.{node_kind, node_a, node_b, node_of, entry_kind, entry_a, entry_b, entry_c, entry_of}
+use Rattle.logic.specs.Written.{node_a, node_b, node_of, entry_a, entry_b, entry_c, entry_of, WritesNode, WritesEntry}
 use Rattle.logic.specs.Concepts.{concepts}
 use Rattle.logic.specs.Books.{Book, with_node, with_entry}
 use Rattle.logic.specs.Lawful.{Lawful, node_known, node_within_limits, node_operands_below, node_placed, entry_known, entry_within_limits, entry_operands_below, entry_placed}
+
+-- the number of the first test that fails: 2 unknown kind, 3 over its limit or unused operand not 0,
+-- 4 operand not there, 5 T out of place, 0 where none fails
+abbrev pub first_unfit : Bool → Bool → Bool → Bool → ℕ
+first_unfit known in_range there placed =
+    cond (not known) 2 (cond (not in_range) 3 (cond (not there) 4 (cond (not placed) 5 0)))
 
 -- an operand that the kind does not use is 0
 abbrev pub node_unused_zero : RawNode → Bool
 node_unused_zero raw = raw.a == node_a (node_of raw) && raw.b == node_b (node_of raw)
 
--- 1 at the limit, 2 unknown kind, 3 over its limit or unused operand not 0, 4 operand not there,
--- 5 T out of place, 0 granted
+-- why a node does not fit a book with room for it
+abbrev pub node_unfit : Book → RawNode → ℕ
+node_unfit bk raw =
+    first_unfit (node_known (node_of raw)) (node_within_limits (node_of raw) && node_unused_zero raw) (node_operands_below (length bk.nodes) (node_of raw)) (node_placed (concepts bk.nodes) (node_of raw))
+
+-- 1 at the limit, and otherwise why it does not fit
 abbrev pub node_refusal : Book → RawNode → ℕ
-node_refusal bk raw =
-    cond (nat_le 512 (length bk.nodes)) 1
-    (cond (not (node_known (node_of raw))) 2
-    (cond (not (node_within_limits (node_of raw) && node_unused_zero raw)) 3
-    (cond (not (node_operands_below (length bk.nodes) (node_of raw))) 4
-    (cond (not (node_placed (concepts bk.nodes) (node_of raw))) 5 0))))
+node_refusal bk raw = cond (nat_le 512 (length bk.nodes)) 1 (node_unfit bk raw)
 
 abbrev pub entry_unused_zero : RawEntry → Bool
 entry_unused_zero raw =
     (raw.a == entry_a (entry_of raw)) && (raw.b == entry_b (entry_of raw) && raw.c == entry_c (entry_of raw))
 
--- the same tests of an entry
+-- the same of an entry
+abbrev pub entry_unfit : Book → RawEntry → ℕ
+entry_unfit bk raw =
+    first_unfit (entry_known (entry_of raw)) (entry_within_limits (entry_of raw) && entry_unused_zero raw) (entry_operands_below (length bk.nodes) (entry_of raw)) (entry_placed (concepts bk.nodes) (entry_of raw))
+
 abbrev pub entry_refusal : Book → RawEntry → ℕ
-entry_refusal bk raw =
-    cond (nat_le 256 (length bk.lines)) 1
-    (cond (not (entry_known (entry_of raw))) 2
-    (cond (not (entry_within_limits (entry_of raw) && entry_unused_zero raw)) 3
-    (cond (not (entry_operands_below (length bk.nodes) (entry_of raw))) 4
-    (cond (not (entry_placed (concepts bk.nodes) (entry_of raw))) 5 0))))
-
--- these are the numbers of the node
-pub record WritesNode (raw : RawNode) (n : Node) : Type 0 where
-  pub kind : raw.kind ≡ node_kind n
-  pub a : raw.a ≡ node_a n
-  pub b : raw.b ≡ node_b n
-
--- these are the numbers of the entry
-pub record WritesEntry (raw : RawEntry) (e : Entry) : Type 0 where
-  pub kind : raw.kind ≡ entry_kind e
-  pub a : raw.a ≡ entry_a e
-  pub b : raw.b ≡ entry_b e
-  pub c : raw.c ≡ entry_c e
+entry_refusal bk raw = cond (nat_le 256 (length bk.lines)) 1 (entry_unfit bk raw)
 
 -- the offer writes a node with which the book is lawful
 abbrev pub NodeFits : Book → RawNode → Type 0

@@ -1,8 +1,9 @@
 -- The written form of nodes and entries: a kind and its operands, an unused operand being 0.
 -- node_kind, node_a, node_b: the numbers of each node. node_of: the node of given numbers.
--- entry_kind, entry_a, entry_b, entry_c, entry_of: the same of entries.
+-- WritesNode: these are the numbers of a node.
+-- entry_kind, entry_a, entry_b, entry_c, entry_of, WritesEntry: the same of entries.
 -- Assumes nothing.
-use Rattle.std.specs.Prelude.{ℕ, cond, ◌==◌}
+use Rattle.std.specs.Prelude.{◌≡◌, ℕ, cond, ◌==◌}
 use Rattle.logic.specs.declared.records.Node.{Node}
 use Rattle.logic.specs.declared.records.Node.TheVariants as node
 use Rattle.logic.specs.declared.records.RawNode.{RawNode}
@@ -62,6 +63,12 @@ node_of raw =
     (cond (raw.kind == 7) (node.Exists raw.a raw.b)
     (cond (raw.kind == 8) (node.Typical raw.a) node.Absent))))))))
 
+-- these are the numbers of the node
+pub record WritesNode (raw : RawNode) (n : Node) : Type 0 where
+  pub kind : raw.kind ≡ node_kind n
+  pub a : raw.a ≡ node_a n
+  pub b : raw.b ≡ node_b n
+
 -- the kind byte; 255 past the end of a book
 abbrev pub entry_kind : Entry → ℕ
 entry_kind (entry.Inclusion a b) = 1
@@ -96,3 +103,10 @@ entry_of raw =
     cond (raw.kind == 1) (entry.Inclusion raw.a raw.b)
     (cond (raw.kind == 2) (entry.Fact raw.a raw.b)
     (cond (raw.kind == 3) (entry.RoleFact raw.a raw.b raw.c) entry.Absent))
+
+-- these are the numbers of the entry
+pub record WritesEntry (raw : RawEntry) (e : Entry) : Type 0 where
+  pub kind : raw.kind ≡ entry_kind e
+  pub a : raw.a ≡ entry_a e
+  pub b : raw.b ≡ entry_b e
+  pub c : raw.c ≡ entry_c e

@@ -13,7 +13,7 @@ pub enum Node {
     All(u16, u16),
     Exists(u16, u16),
     Typical(u16),
-    // past the end of a book
+    // past the end of a book, where a question has an answer too: kind 255
     Absent,
 }
 
@@ -24,27 +24,28 @@ pub enum Entry {
     Inclusion(u16, u16),
     Fact(u16, u16),
     RoleFact(u16, u16, u16),
-    // past the end of a book
+    // past the end of a book, as for a node
     Absent,
 }
 
-// An entry in its place, live until it is struck.
+// An entry in its place, live until it is struck. A struck line keeps its entry, so the mark stands beside it.
 #[derive(Clone, Copy)]
 pub struct Line {
     pub entry: Entry,
     pub live: bool,
 }
 
-// A node as it is written and offered: nothing is known of its numbers.
-#[derive(Clone, Copy)]
+// A node as it is written and offered: nothing is known of its numbers. The kind is one of them, since an
+// unknown kind is offered too, and refused.
+#[derive(Clone, Copy, PartialEq, Eq)]
 pub struct RawNode {
     pub kind: u8,
     pub a: u16,
     pub b: u16,
 }
 
-// An entry as it is written and offered.
-#[derive(Clone, Copy)]
+// An entry as it is written and offered, with its kind as a number too.
+#[derive(Clone, Copy, PartialEq, Eq)]
 pub struct RawEntry {
     pub kind: u8,
     pub a: u16,

@@ -3,7 +3,7 @@ ghost use Rattle.std.specs.Prelude.{◌≡◌};
 ghost use Rattle.logic.specs.Branches.{form_number};
 
 // What a constraint says of a label and a node.
-#[derive(Clone, Copy)]
+#[derive(Clone, Copy, PartialEq, Eq)]
 pub enum Form {
     // the element is in the concept
     Holds,
@@ -15,12 +15,12 @@ pub enum Form {
     Admits,
 }
 
-impl Form {
-    // The number by which the form goes.
-    pub fn number(self) -> u8
-        ensures { result ≡ form_number self }
-    {
-        match self {
+// The number by which a form goes.
+impl From<Form> for u8 {
+    ghost from_gives = { λ form n. n ≡ form_number form };
+
+    fn from(form: Form) -> u8 {
+        match form {
             Form::Holds => 0,
             Form::Fails => 1,
             Form::Bars => 2,
@@ -30,7 +30,7 @@ impl Form {
 }
 
 // A label stands for an element. Labels 0 to 31 are the individuals; new ones count from 32.
-#[derive(Clone, Copy)]
+#[derive(Clone, Copy, PartialEq, Eq)]
 pub struct Constraint {
     pub label: u16,
     pub form: Form,
@@ -38,14 +38,15 @@ pub struct Constraint {
 }
 
 // A role leads from one label to another; at role 16, the second is better than the first.
-#[derive(Clone, Copy)]
+#[derive(Clone, Copy, PartialEq, Eq)]
 pub struct Edge {
     pub from: u16,
     pub role: u16,
     pub to: u16,
 }
 
-// A step names a rule by its op, and entries, labels, constraints and edges by their numbers.
+// A step names a rule by its op, and entries, labels, constraints and edges by their numbers. The op is a
+// number too, since an unknown op is handed in too, and refused.
 #[derive(Clone, Copy)]
 pub struct Step {
     pub op: u8,

@@ -1,90 +1,87 @@
 -- What is found first among the names, the roles and the individuals is the lowest bad field.
 -- Assumes nothing.
-use Rattle.std.proofs.Common.{◌≡◌, ℕ, ◌+◌, ◌*◌, ◌/◌, ◌%◌, ◌<◌, ◌≤◌, List, length, get_or, Some, None, sym, refl, ap, ◌∙◌, subst, inl, inr, arith}
+use Rattle.std.proofs.Common.{◌≡◌, ℕ, ◌+◌, ◌*◌, ◌<◌, ◌≤◌, [], length, get_or, MatchOption, Option, Some, None, refl, ap, ◌∙◌, sym, subst, inl, inr, arith}
 use Rattle.std.proofs.lemmas.List.{get_or_past}
-use Rattle.std.proofs.lemmas.Bool.{cases_lt, both_ways, lt-ltb, le-ltb, cond-true, cond-false}
+use Rattle.std.proofs.lemmas.Bool.{cases_lt, both_ways}
 use Rattle.orders.specs.Masks.{has, Within}
 use Rattle.orders.proofs.MaskBits.{has-zero}
+use Rattle.models.specs.declared.fields.Tables.{Tables}
 use Rattle.models.specs.Interpretations.{Interpretation}
 use Rattle.models.specs.Tables.{by_tables}
-use Rattle.models.specs.Fields.{Field, size, name, role, individual, first_byte, Good, LedWithin, FirstWithout, Valid, LowestBad}
+use Rattle.models.specs.Fields.{Field, size, name, role, individual, first_byte, Good, LedWithin, FirstWithout, FirstBad, LowestBad}
 
 -- the empty set is within every size
-empty_within : (n set : ℕ) → set ≡ 0 → Within n set
+pub empty_within : (n set : ℕ) → set ≡ 0 → Within n set
 empty_within n set e y h = absurd (both_ways _ (ap (λ s. has s y) e ∙ has-zero y) h)
 
-module _ (n : ℕ) (names roles individuals : List ℕ) (some : 1 ≤ n) (few : n ≤ 32) (name-count : length names ≡ 64) (role-count : length roles ≡ 512) (individual-count : length individuals ≡ 32) where
+module _ (t : Tables) (sized : Good (by_tables t) size) where
   abbrev I : Interpretation
-  I = by_tables n names roles individuals
+  I = by_tables t
 
-  -- past the names and the individuals nothing is said
-  name_past : (a : ℕ) → 64 ≤ a → Good I (name a)
-  name_past a h = empty_within n (get_or names a 0) (get_or_past names a 0 (omega (arith, name-count)))
-
-  -- the set of a role is good where the one in the table is, if there can be such an element
-  role_good : (r x : ℕ) → (x < 32 → LedWithin n x (get_or roles (32 * r + x) 0)) → Good I (role r x)
-  role_good r x h = elim (cases_lt x 32) [
-    | inl l ↦ subst (LedWithin n x) (sym (cond-true _ _ _ (lt-ltb x 32 l))) (h l)
-    | inr l ↦ (let e : I.led r x ≡ 0 = cond-false _ _ _ (le-ltb x 32 l) in (empty_within n _ e, λ _. e))
-  ]
-
-  led_good : (limit : ℕ) → ((k : ℕ) → k < limit → LedWithin n (k % 32) (get_or roles k 0)) → (r x : ℕ) → 32 * r + x < limit → Good I (role r x)
-  led_good limit found r x h = role_good r x (λ l.
-      let e : (32 * r + x) % 32 ≡ x = omega arith in
-      subst (λ y. LedWithin n y (get_or roles (32 * r + x) 0)) e (found (32 * r + x) h))
-
-  every_name : FirstWithout (λ a. Within n (get_or names a 0)) 64 None → (a : ℕ) → Good I (name a)
-  every_name found a = elim (cases_lt a 64) [
+  -- past the names, the roles, the elements and the individuals nothing is said
+  every_name : length t.names ≡ 64 → FirstWithout (λ a. Good I (name a)) 64 None → (a : ℕ) → Good I (name a)
+  every_name count found a = elim (cases_lt a 64) [
     | inl l ↦ found a l
-    | inr l ↦ name_past a l
+    | inr l ↦ empty_within t.size _ (get_or_past t.names a 0 (omega (arith, count)))
   ]
 
-  every_role : FirstWithout (λ k. LedWithin n (k % 32) (get_or roles k 0)) 512 None → (r x : ℕ) → Good I (role r x)
-  every_role found r x = elim (cases_lt (32 * r + x) 512) [
-    | inl l ↦ led_good 512 found r x l
-    | inr l ↦
-        (let e = get_or_past roles (32 * r + x) 0 (omega (arith, role-count)) in
-        role_good r x (λ _. (empty_within n _ e, λ _. e)))
+  no_role : (r x : ℕ) → get_or (get_or t.roles r []) x 0 ≡ 0 → Good I (role r x)
+  no_role r x e = (empty_within t.size _ e, λ _. e)
+
+  pub row_good : (r : ℕ) → FirstWithout (λ x. LedWithin t.size x (get_or (get_or t.roles r []) x 0)) 32 None → ((x : ℕ) → 32 ≤ x → get_or (get_or t.roles r []) x 0 ≡ 0) → (x : ℕ) → Good I (role r x)
+  row_good r found past x = elim (cases_lt x 32) [
+    | inl l ↦ found x l
+    | inr l ↦ no_role r x (past x l)
   ]
 
-  pub bad_name : (a : ℕ) → FirstWithout (λ a. Within n (get_or names a 0)) 64 (Some a) → LowestBad I (1 + 4 * a)
+  every_role : length t.roles ≡ 16 → ((r : ℕ) → r < 16 → (x : ℕ) → Good I (role r x)) → (r x : ℕ) → Good I (role r x)
+  every_role count found r x = elim (cases_lt r 16) [
+    | inl l ↦ found r l x
+    | inr l ↦ no_role r x (ap (λ row. get_or row x 0) (get_or_past t.roles r [] (omega (arith, count))))
+  ]
+
+  every_individual : length t.individuals ≡ 32 → FirstWithout (λ a. Good I (individual a)) 32 None → (a : ℕ) → Good I (individual a)
+  every_individual count found a = elim (cases_lt a 32) [
+    | inl l ↦ found a l
+    | inr l ↦ omega (arith, sized.0, get_or_past t.individuals a 0 (omega (arith, count)))
+  ]
+
+  pub bad_name : (a : ℕ) → FirstWithout (λ a. Good I (name a)) 64 (Some a) → LowestBad I (1 + 4 * a)
   bad_name a found = record { field = name a; stands = refl; bad = found.1; lowest = before }
     where
       before : (f : Field) → first_byte f < 1 + 4 * a → Good I f
-      before size h = (some, few)
+      before size h = sized
       before (name b) h = found.2 b (omega arith)
       before (role r x) h = absurd (omega (arith, found.0))
       before (individual b) h = absurd (omega (arith, found.0))
 
-  pub bad_led : (k : ℕ) → FirstWithout (λ a. Within n (get_or names a 0)) 64 None → FirstWithout (λ k. LedWithin n (k % 32) (get_or roles k 0)) 512 (Some k) → LowestBad I (257 + 4 * k)
-  bad_led k named found = record { field = role (k / 32) (k % 32); stands = omega arith; bad = λ h. found.1 (back h); lowest = before }
+  pub bad_role : (r x : ℕ) → r < 16 → length t.names ≡ 64 → FirstWithout (λ a. Good I (name a)) 64 None → ((q : ℕ) → q < r → (y : ℕ) → Good I (role q y)) → FirstWithout (λ x. LedWithin t.size x (get_or (get_or t.roles r []) x 0)) 32 (Some x) → LowestBad I (257 + 4 * (32 * r + x))
+  bad_role r x few count named above found = record { field = role r x; stands = refl; bad = found.1; lowest = before }
     where
-      back : Good I (role (k / 32) (k % 32)) → LedWithin n (k % 32) (get_or roles k 0)
-      back h =
-          let there : k % 32 < 32 = omega arith in
-          let e : 32 * (k / 32) + k % 32 ≡ k = omega arith in
-          subst (λ j. LedWithin n (k % 32) (get_or roles j 0)) e (subst (LedWithin n (k % 32)) (cond-true _ _ _ (lt-ltb (k % 32) 32 there)) h)
-
-      before : (f : Field) → first_byte f < 257 + 4 * k → Good I f
-      before size h = (some, few)
-      before (name b) h = every_name named b
-      before (role r x) h = led_good k found.2 r x (omega arith)
+      before : (f : Field) → first_byte f < 257 + 4 * (32 * r + x) → Good I f
+      before size h = sized
+      before (name b) h = every_name count named b
+      before (role q y) h = elim (cases_lt q r) [
+        | inl l ↦ above q l y
+        | inr l ↦
+            (let e : r ≡ q = omega (arith, found.0) in
+            subst (λ q. Good I (role q y)) e (found.2 y (omega arith)))
+      ]
       before (individual b) h = absurd (omega (arith, found.0))
 
-  pub bad_individual : (a : ℕ) → FirstWithout (λ a. Within n (get_or names a 0)) 64 None → FirstWithout (λ k. LedWithin n (k % 32) (get_or roles k 0)) 512 None → FirstWithout (λ a. get_or individuals a 0 < n) 32 (Some a) → LowestBad I (2305 + a)
-  bad_individual a named led found = record { field = individual a; stands = refl; bad = found.1; lowest = before }
+  -- after the names and the roles, an individual or none is bad
+  pub bad_individual : (found r : Option ℕ) → length t.names ≡ 64 → length t.roles ≡ 16 → length t.individuals ≡ 32 → FirstWithout (λ a. Good I (name a)) 64 None → ((r : ℕ) → r < 16 → (x : ℕ) → Good I (role r x)) → FirstWithout (λ a. Good I (individual a)) 32 found → MatchOption found (r ≡ None) (λ a. r ≡ Some (2305 + a)) → FirstBad I r
+  bad_individual None r names roles individuals named led placed e = subst (FirstBad I) (sym e) every
+    where
+      every : FirstBad I None
+      every size = sized
+      every (name a) = every_name names named a
+      every (role r x) = every_role roles led r x
+      every (individual a) = every_individual individuals placed a
+  bad_individual (Some a) r names roles individuals named led placed e = subst (FirstBad I) (sym e) (record { field = individual a; stands = refl; bad = placed.1; lowest = before })
     where
       before : (f : Field) → first_byte f < 2305 + a → Good I f
-      before size h = (some, few)
-      before (name b) h = every_name named b
-      before (role r x) h = every_role led r x
-      before (individual b) h = found.2 b (omega arith)
-
-  pub none_bad : FirstWithout (λ a. Within n (get_or names a 0)) 64 None → FirstWithout (λ k. LedWithin n (k % 32) (get_or roles k 0)) 512 None → FirstWithout (λ a. get_or individuals a 0 < n) 32 None → Valid I
-  none_bad named led found size = (some, few)
-  none_bad named led found (name a) = every_name named a
-  none_bad named led found (role r x) = every_role led r x
-  none_bad named led found (individual a) = elim (cases_lt a 32) [
-    | inl l ↦ found a l
-    | inr l ↦ omega (arith, get_or_past individuals a 0 (omega (arith, individual-count)))
-  ]
+      before size h = sized
+      before (name b) h = every_name names named b
+      before (role r x) h = every_role roles led r x
+      before (individual b) h = placed.2 b (omega arith)

@@ -1,10 +1,10 @@
 -- The set of a concept and that of a node, from the sets of their parts. Assumes nothing.
-use Rattle.std.proofs.Common.{◌≡◌, ℕ, ◌<◌, ◌≤◌, List, get_or, sym, subst, inl, inr}
+use Rattle.std.proofs.Common.{◌≡◌, ℕ, ◌≤◌, List, get_or, sym, subst, inl, inr}
 use lib.Bits.{bit_and, bit_or}
-use Rattle.std.proofs.lemmas.Bool.{both_ways, cases_Bool}
-use Rattle.std.proofs.lemmas.Bool.Decides.{Decides-at, Decides-like, Decides-and, Decides-or, Decides-not, Decides-ltb}
+use Rattle.std.proofs.lemmas.Bool.{both_ways}
+use Rattle.std.proofs.lemmas.Bool.Decides.{Decides-at, Decides-like, Decides-and, Decides-or, Decides-ltb}
 use Rattle.logic.specs.declared.records.Node.{Node}
-use Rattle.logic.specs.declared.records.Node.TheVariants.{Top, Bottom, Name, Not, And, Or, All, Exists, Typical, Absent}
+use Rattle.logic.specs.declared.records.Node.TheVariants.{Top, Bottom, Name, And, Or, Absent}
 use Rattle.logic.specs.Concepts.{Concept}
 use Rattle.logic.specs.Concepts as con
 use Rattle.logic.specs.Models.{Model}
@@ -13,7 +13,7 @@ use Rattle.orders.proofs.MaskBits.{has-zero, has-and, has-or, has-all_below}
 use Rattle.models.specs.Interpretations.{Interpretation}
 use Rattle.models.specs.Fields.{size, name}
 use Rattle.models.specs.Meanings.{Fits, meant}
-use Rattle.models.specs.Extensions.{Extension, SetOfNode, Complement, Leading, BestOf}
+use Rattle.models.specs.Extensions.{Extension, SetOfNode}
 
 pub empty_set : (m : Model) → Extension m con.bottom 0
 empty_set m x = (λ t. absurd (both_ways _ (has-zero x) t), λ p. absurd p.1)
@@ -35,11 +35,6 @@ module _ (i : Interpretation) (o : Preference) (f : Fits i o) where
   ext_name : (a : ℕ) → Extension M (con.atom a) (i.names a)
   ext_name a x = (λ t. (f.valid (name a) x t, t), λ p. p.1)
 
-  ext_not : (c : Concept) (s mask : ℕ) → Extension M c s → Complement i s mask → Extension M (con.not c) mask
-  ext_not c s mask e h x =
-      Decides-like (has mask x) (λ p. (p.0, λ u. p.1 (p.0, u))) (λ p. (p.0, λ u. p.1 u.1))
-      (Decides-at _ _ (h x) (Decides-and _ _ (Decides-ltb x n) (Decides-not _ (e x))))
-
   ext_and : (c d : Concept) (s t : ℕ) → Extension M c s → Extension M d t → Extension M (con.and c d) (bit_and s t)
   ext_and c d s t e k x =
       Decides-like (has (bit_and s t) x) (λ p. (p.0.0, (p.0.1, p.1.1))) (λ p. ((p.0, p.1.0), (p.0, p.1.1)))
@@ -51,39 +46,6 @@ module _ (i : Interpretation) (o : Preference) (f : Fits i o) where
       (λ p. elim p [ inl u ↦ (u.0, inl u.1) | inr u ↦ (u.0, inr u.1) ])
       (λ p. elim p.1 [ inl u ↦ inl (p.0, u) | inr u ↦ inr (p.0, u) ])
       (Decides-at _ _ (has-or s t x) (Decides-or _ _ (e x) (k x)))
-
-  ext_some : (r : ℕ) (c : Concept) (s mask : ℕ) → Extension M c s → Leading i r s mask → Extension M (con.some r c) mask
-  ext_some r c s mask e h x =
-      Decides-like (has mask x)
-      (λ p. let w = p.1 in let u = (e w.0).0 w.2 in (p.0, (w.0, u.0, w.1, u.1)))
-      (λ p. let w = p.1 in (p.0, (w.0, w.2, (e w.0).1 (w.1, w.3))))
-      (h x)
-
-  -- what is in all of a concept is what the role does not lead out of it
-  ext_all : (r : ℕ) (c : Concept) (s out mask whole : ℕ) → Extension M c s → Complement i s out → Leading i r out mask → Complement i mask whole → Extension M (con.all r c) whole
-  ext_all r c s out mask whole e outside h rest x =
-      let no = ext_some r (con.not c) out mask (ext_not c s out e outside) h in
-      Decides-like (has whole x)
-      (λ p. (
-        p.0,
-        λ y l t. (elim (cases_Bool (has s y)) [
-          | inl u ↦ ((e y).0 u).1
-          | inr u ↦ absurd (p.1 (y, l, t, λ q. both_ways _ u ((e y).1 (l, q))))
-        ]),
-      ))
-      (λ p. (p.0, λ w. w.3 (p.1 w.0 w.1 w.2)))
-      (ext_not (con.some r (con.not c)) mask whole no rest x)
-
-  ext_typical : (c : Concept) (s mask : ℕ) → Extension M c s → BestOf o s mask → Extension M (con.typical c) mask
-  ext_typical c s mask e h x =
-      Decides-like (has mask x)
-      (λ b. let u = (e x).0 b.member in (u.0, (u.1, λ y l t k. b.none_better y t ((e y).1 (l, k)))))
-      (λ p. record {
-        there = subst (λ k. x < k) (sym f.sized) p.0;
-        member = (e x).1 (p.0, p.1.0);
-        none_better = λ y t k. (let u = (e y).0 k in p.1.1 y u.0 t u.1);
-      })
-      (h x)
 
 -- The set of a node, from those that the list has for its operands.
 module _ (i : Interpretation) (o : Preference) (list : List ℕ) (node : Node) (mask : ℕ) where
@@ -103,9 +65,6 @@ module _ (i : Interpretation) (o : Preference) (list : List ℕ) (node : Node) (
   pub node_name : (a : ℕ) → node ≡ Name a → mask ≡ i.names a → SetOfNode i o list node mask
   node_name a e is = node_known (Name a) e (λ f cs s. subst (Extension (meant i o f) (con.atom a)) (sym is) (ext_name i o f a))
 
-  pub node_not : (c : ℕ) → node ≡ Not c → Complement i (get_or list c 0) mask → SetOfNode i o list node mask
-  node_not c e h = node_known (Not c) e (λ f cs s. ext_not i o f (con.of cs c) (get_or list c 0) mask (s c) h)
-
   pub node_and : (c d : ℕ) → node ≡ And c d → mask ≡ bit_and (get_or list c 0) (get_or list d 0) → SetOfNode i o list node mask
   node_and c d e is =
       node_known (And c d) e
@@ -115,13 +74,3 @@ module _ (i : Interpretation) (o : Preference) (list : List ℕ) (node : Node) (
   node_or c d e is =
       node_known (Or c d) e
       (λ f cs s. subst (Extension (meant i o f) (con.or (con.of cs c) (con.of cs d))) (sym is) (ext_or i o f (con.of cs c) (con.of cs d) _ _ (s c) (s d)))
-
-  pub node_some : (r c : ℕ) → node ≡ Exists r c → Leading i r (get_or list c 0) mask → SetOfNode i o list node mask
-  node_some r c e h = node_known (Exists r c) e (λ f cs s. ext_some i o f r (con.of cs c) (get_or list c 0) mask (s c) h)
-
-  pub node_all : (r c out inner : ℕ) → node ≡ All r c → Complement i (get_or list c 0) out → Leading i r out inner → Complement i inner mask → SetOfNode i o list node mask
-  node_all r c out inner e outside h rest =
-      node_known (All r c) e (λ f cs s. ext_all i o f r (con.of cs c) (get_or list c 0) out inner mask (s c) outside h rest)
-
-  pub node_typical : (c : ℕ) → node ≡ Typical c → BestOf o (get_or list c 0) mask → SetOfNode i o list node mask
-  node_typical c e h = node_known (Typical c) e (λ f cs s. ext_typical i o f (con.of cs c) (get_or list c 0) mask (s c) h)

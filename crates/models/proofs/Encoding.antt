@@ -1,12 +1,12 @@
 -- The bytes of a model mean it. Assumes nothing.
 use Rattle.std.proofs.Common.{◌≡◌, ℕ, ◌+◌, ◌-◌, ◌*◌, ◌/◌, ◌%◌, ◌^◌, ◌<◌, ◌≤◌, ◌&&◌, eqb, ltb, ◌⊎◌, sym, refl, ap, ◌∙◌, subst, inl, inr, arith}
-use Rattle.std.proofs.lemmas.Bool.{cases_lt, cases_Bool, both_ways, and_parts, and_from, ltb-true, lt-ltb, le-ltb, ne_eqb, cond-true, cond-false, cond_both}
+use Rattle.std.proofs.lemmas.Bool.{cases_lt, cases_Bool, and_parts, and_from, ltb-true, lt-ltb, le-ltb, ne_eqb, cond-true, cond-false, cond_both}
 use Rattle.logic.specs.Models.{Model}
 use Rattle.orders.specs.Bytes.{byte, word}
 use Rattle.orders.specs.Masks.{has, mask_of, Within}
-use Rattle.orders.proofs.MaskBits.{has-zero}
 use Rattle.models.specs.Interpretations.{said}
 use Rattle.models.specs.Fields.{Field, size, name, role, individual, Good}
+use Rattle.models.proofs.BadFields.{empty_within}
 use Rattle.models.proofs.ByteTables.{table_length, table_at, table_small, digit_small, word_of}
 use Rattle.models.proofs.ModelMasks.{mask_small, mask_within, mask_at}
 use Rattle.models.specs.Encodings.{digit, name_mask, led_mask, model_mask, model_byte, model_bytes, Encoded}
@@ -74,13 +74,10 @@ module _ (m : Model) (few : m.size ≤ 32) where
   within_said : (set mask : ℕ) → set ≡ mask → Within m.size mask → Within (said (model_bytes m)).size set
   within_said set mask e h y t = subst (λ n. y < n) (sym said_size) (h y (sym (ap (λ s. has s y) e) ∙ t))
 
-  empty_within : (n : ℕ) → Within n 0
-  empty_within n y h = absurd (both_ways _ (has-zero y) h)
-
   led_within : (r x : ℕ) → Within m.size (led_mask m r x)
   led_within r x = elim (cases_lt x m.size) [
     | inl l ↦ subst (Within m.size) (sym (led_there r x l)) (mask_within m few (m.roles r x))
-    | inr l ↦ subst (Within m.size) (sym (led_absent r x l)) (empty_within m.size)
+    | inr l ↦ empty_within m.size _ (led_absent r x l)
   ]
 
   -- past the roles, and the elements that there can be, nothing is said
@@ -94,11 +91,11 @@ module _ (m : Model) (few : m.size ≤ 32) where
   good size = (omega (arith, said_size, m.inhabited), omega (arith, said_size, few))
   good (name a) = elim (cases_lt a 64) [
     | inl l ↦ within_said _ _ (said_name a l) (mask_within m few (m.atoms a))
-    | inr l ↦ within_said _ _ (cond-false _ _ _ (le-ltb a 64 l)) (empty_within m.size)
+    | inr l ↦ empty_within _ _ (cond-false _ _ _ (le-ltb a 64 l))
   ]
   good (role r x) = elim (led_said r x) [
     | inl e ↦ (within_said _ _ e (led_within r x), λ h. e ∙ led_absent r x (subst (λ n. n ≤ x) said_size h))
-    | inr e ↦ (within_said _ _ e (empty_within m.size), λ h. e)
+    | inr e ↦ (empty_within _ _ e, λ h. e)
   ]
   good (individual a) = elim (cases_lt a 32) [
     | inl l ↦ omega (arith, said_individual a l, m.individual_within a l, said_size)

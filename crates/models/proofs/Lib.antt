@@ -1,11 +1,7 @@
--- bad fields, and how they are found
-pub mod BadFields
 -- masks that are gathered from a property
 pub mod Gathering
 -- the sets of concepts
 pub mod ConceptSets
--- tables that have what bytes say
-pub mod Saying
 -- tables of bytes
 pub mod ByteTables
 -- masks of a model's elements
@@ -14,3 +10,5 @@ pub mod ModelMasks
 pub mod Encoding
 -- the pairs of a model are its "better"
 pub mod PairEncoding
+-- bad fields, and how they are found
+pub mod BadFields

@@ -12,7 +12,7 @@ use Rattle.models.specs.Fields.{Field, size, name, role, individual, Good, Valid
 
 -- what a view holds
 abbrev pub held : View → Interpretation
-held v = by_tables v.size v.names v.roles v.individuals
+held v = by_tables v.tables
 
 good_once : (i : Interpretation) (f : Field) (a b : Good i f) → a ≡ b
 good_once i size a b = λ t. (le_prop a.0 b.0 t, le_prop a.1 b.1 t)

@@ -1,16 +1,16 @@
 -- Interpretations by tables of masks.
--- by_tables: the interpretation of a size, the sets of the names, those of the roles, and the elements of
--- the individuals.
+-- by_tables: the interpretation that tables have.
 -- Assumes nothing.
-use Rattle.std.specs.Prelude.{ℕ, ◌+◌, ◌*◌, cond, List, nat_lt, slice_index}
+use Rattle.std.specs.Prelude.{[], slice_index, slice_index_or}
+use Rattle.models.specs.declared.fields.Tables.{Tables}
 use Rattle.models.specs.Interpretations.{Interpretation}
 
--- the set of role r at element x stands at 32 × r + x
-abbrev pub by_tables : ℕ → List ℕ → List ℕ → List ℕ → Interpretation
-by_tables n names roles individuals =
+-- the set of a role at an element stands in the row of the role
+abbrev pub by_tables : Tables → Interpretation
+by_tables t =
     record {
-      size = n;
-      names = λ a. slice_index names a;
-      led = λ r x. cond (nat_lt x 32) (slice_index roles (32 * r + x)) 0;
-      individual = λ a. slice_index individuals a;
+      size = t.size;
+      names = λ a. slice_index t.names a;
+      led = λ r x. slice_index (slice_index_or t.roles r []) x;
+      individual = λ a. slice_index t.individuals a;
     }

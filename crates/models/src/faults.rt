@@ -8,7 +8,7 @@ pub enum ViewFault {
     // with the length
     BadLength(usize),
     // with the first byte of the lowest bad field
-    BadField(u16),
+    BadField(usize),
 }
 
 impl Refusal for ViewFault {
@@ -26,7 +26,7 @@ impl Refusal for ViewFault {
     fn place(&self) -> usize {
         match *self {
             ViewFault::BadLength(length) => length,
-            ViewFault::BadField(at) => at as usize,
+            ViewFault::BadField(at) => at,
         }
     }
 }

@@ -9,35 +9,34 @@ impl View {
     pub fn size(&self) -> u8
         ensures { result ≡ (held self.now).size }
     {
-        self.size
+        self.tables.size
     }
 
     // The set of a name; empty past the last.
     pub fn name(&self, a: u16) -> u32
         ensures { result ≡ (held self.now).names a }
     {
-        if a < 64 { self.names[a as usize] } else { 0 }
+        self.tables.names.get(a as usize).copied().unwrap_or(0)
     }
 
     // The elements to which a role leads from element x; none past the last role or element.
     pub fn led_to(&self, role: u16, x: u8) -> u32
         ensures { result ≡ (held self.now).led role x }
     {
-        if role < 16 && x < 32 {
-            self.roles[32 * role as usize + x as usize]
-        } else {
-            0
-        }
+        let row = self.tables.roles.get(role as usize);
+        row.and_then(|row| row.get(x as usize))
+            .copied()
+            .unwrap_or(0)
     }
 
     // The element of an individual; 0 past the last.
     pub fn element(&self, individual: u16) -> u8
         ensures { result ≡ (held self.now).individual individual }
     {
-        if individual < 32 {
-            self.individuals[individual as usize]
-        } else {
-            0
-        }
+        self.tables
+            .individuals
+            .get(individual as usize)
+            .copied()
+            .unwrap_or(0)
     }
 }

@@ -5,9 +5,8 @@ ghost use Rattle.models.specs.Fields.{Valid};
 ghost use Rattle.models.specs.Answers.{Whole, ReadAnswer};
 
 use crate::faults::ViewFault;
-use crate::fields::{first_bad, individuals_at, words};
+use crate::fields::Tables;
 use crate::view::View;
-use orders::bytes::byte_at;
 
 const LENGTH: usize = 2337;
 
@@ -21,18 +20,10 @@ impl View {
         if bytes.len() != LENGTH {
             return Err(ViewFault::BadLength(bytes.len()));
         }
-        let size = byte_at(bytes, 0);
-        let names = words::<64>(bytes, 1);
-        let roles = words::<512>(bytes, 257);
-        let individuals = individuals_at(bytes);
-        if let Some(at) = first_bad(size, &names, &roles, &individuals) {
-            return Err(ViewFault::BadField(at));
+        let tables = Tables::from_bytes(bytes);
+        match tables.first_bad() {
+            Some(at) => Err(ViewFault::BadField(at)),
+            None => Ok(View { tables }),
         }
-        Ok(View {
-            size,
-            names,
-            roles,
-            individuals,
-        })
     }
 }

@@ -13,11 +13,11 @@ use orders::order::Order;
 pub fn set_at(list: &[u32], i: u16) -> u32
     ensures { result ≡ slice_index list.now i }
 {
-    let i = i as usize;
-    if i < list.len() { list[i] } else { 0 }
+    list.get(i as usize).copied().unwrap_or(0)
 }
 
 // Being an element from which a role leads into a set.
+// A type in place of a closure, which would bring a `requires` on a public call, `mask_of`.
 #[derive(Drop)]
 struct Led<'a> {
     view: &'a View,

@@ -1,5 +1,9 @@
 -- the bits of masks
 pub mod MaskBits
+-- masks that a fold gathers
+pub mod Folds
+-- arrays that are made place by place
+pub mod Making
 -- tables of masks
 pub mod Tables
 -- which orders are strict

@@ -1,7 +1,6 @@
 -- The bits of masks. Assumes nothing.
-use Rattle.std.proofs.Common.{◌≡◌, ℕ, zero, suc, ◌+◌, ◌-◌, ◌*◌, ◌/◌, ◌%◌, ◌^◌, ◌<◌, ◌≤◌, min, Bool, true, false, cond, not, ◌&&◌, ◌||◌, eqb, ltb, Decides, sym, refl, ap, ◌∙◌, inl, inr, zero-add, one-add, arith, pow_mono}
+use Rattle.std.proofs.Common.{◌≡◌, ℕ, zero, suc, ◌+◌, ◌-◌, ◌*◌, ◌/◌, ◌%◌, ◌^◌, ◌<◌, ◌≤◌, min, Bool, true, false, cond, not, ◌&&◌, ◌||◌, eqb, ltb, Decides, sym, refl, ap, ◌∙◌, inl, inr, zero-add, one-add, arith}
 use native.Mathlib.Nat.{pow-succ'}
-use mir.Val.{bool_byte}
 use lib.Dec.{leb-suc-suc, leb-zero, leb-suc-zero}
 use lib.Bits.{bit_and, bit_or, bit_xor}
 use Rattle.std.proofs.lemmas.Nat.{pow_pos, and_shr, or_shr, xor_shr, and_mod, or_mod, xor_mod, shr-shr}
@@ -140,28 +139,9 @@ one_more : (b : Bool) (m k n : ℕ) → m < k → n ≡ 2 * k → cond b 1 0 + 2
 one_more true m k n h e = omega arith
 one_more false m k n h e = omega arith
 
-gathered_below : (p : ℕ → Bool) (k x : ℕ) → gathered p x k < 2 ^ k
+pub gathered_below : (p : ℕ → Bool) (k x : ℕ) → gathered p x k < 2 ^ k
 gathered_below p zero x = omega arith
 gathered_below p (suc k) x = one_more (p x) (gathered p (x + 1) k) (2 ^ k) (2 ^ suc k) (gathered_below p k (x + 1)) (pow-succ' 2 k)
 
 pub mask_below : (p : ℕ → Bool) (n : ℕ) → mask_of p n < 2 ^ n
 mask_below p n = gathered_below p n 0
-
--- fewer than 32 elements leave the highest bit free
-pub gathered_fits : (p : ℕ → Bool) (k x : ℕ) → k ≤ 31 → gathered p x k < 2 ^ 31
-gathered_fits p k x h = let most : 2 ^ k ≤ 2 ^ 31 = pow_mono h in omega (arith, gathered_below p k x)
-
-low_first : (b : Bool) (m : ℕ) → 2 * m + bool_byte b ≡ cond b 1 0 + 2 * m
-low_first true m = omega arith
-low_first false m = omega arith
-
--- one element more, at the front
-pub gathered_more : (p : ℕ → Bool) (n x : ℕ) → 0 < x → x ≤ n → 2 * gathered p x (n - x) + bool_byte (p (x - 1)) ≡ gathered p (x - 1) (n - (x - 1))
-gathered_more p n x h l =
-    let e : n - (x - 1) ≡ suc (n - x) = omega arith in
-    let d : x ≡ x - 1 + 1 = omega arith in
-    low_first (p (x - 1)) (gathered p x (n - x)) ∙ ap (λ z. cond (p (x - 1)) 1 0 + 2 * gathered p z (n - x)) d ∙ sym (ap (gathered p (x - 1)) e)
-
-pub bit_small : (b : Bool) → bool_byte b ≤ 1
-bit_small true = omega arith
-bit_small false = omega arith

@@ -57,6 +57,10 @@ paired_lawful bs rows whole table none = (
       (subst (λ o. FirstUnlawful o None) (table_means (paired bs) (length bs / 4) rows refl table) none),
 )
 
+-- a table of the sets of a strict order is strict
+pub table_strict : (o : Preference) (masks : List ℕ) → Table o.better masks → Strict o → Strict (by_rows o.size masks)
+table_strict o masks table strict = subst Strict (sym (table_means o o.size masks refl table)) strict
+
 -- which elements are better by rank
 better_true : (rs : List ℕ) (x y : ℕ) → has ((ranked rs).better x) y ≡ true → (y < length rs) × (byte rs y < byte rs x)
 better_true rs x y h =

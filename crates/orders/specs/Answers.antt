@@ -1,15 +1,16 @@
--- What filling an order answers. In each relation old is the order before the call and new the order
--- after it.
--- PairsAnswer, RanksAnswer: what the call answers and does.
+-- What filling an order answers.
+-- PairsRefused, RanksRefused: which fault is answered to bytes that are not lawful. FillAnswer: what the
+-- call answers and does; old is the order before the call and new the order after it.
 -- Assumes nothing.
 use Rattle.std.specs.Prelude.{◌≡◌, ℕ, List, length, Ok, Err, Result}
+use Rattle.logic.specs.declared.refusal.BadLength.{BadLength}
+use Rattle.logic.specs.Lengths.{bad_length_number, bad_length_place}
 use Rattle.orders.specs.declared.faults.PairsFault.{PairsFault}
 use Rattle.orders.specs.declared.faults.PairsFault.TheVariants as pairs
-use Rattle.orders.specs.declared.faults.RanksFault.{RanksFault}
 use Rattle.orders.specs.Masks.{Preference}
-use Rattle.orders.specs.PairLaws.{paired, WholeRows, PairsLawful, LowestUnlawful}
-use Rattle.orders.specs.RankLaws.{ranked, RanksLawful}
-use Rattle.orders.specs.Faults.{pairs_fault_number, pairs_fault_place, ranks_fault_number, ranks_fault_place}
+use Rattle.orders.specs.PairLaws.{paired, WholeRows, LowestUnlawful}
+use Rattle.orders.specs.RankLaws.{RanksLawful}
+use Rattle.orders.specs.Faults.{pairs_fault_number, pairs_fault_place}
 
 -- 7 with the length where there are not four bytes for each of 1 to 32 elements, 15 with the lowest
 -- element whose set is not lawful
@@ -17,12 +18,11 @@ abbrev pub PairsRefused : List ℕ → PairsFault → Type 0
 PairsRefused bs (pairs.BadLength n) = (WholeRows bs → ⊥) × (pairs_fault_number (pairs.BadLength n) ≡ 7) × (pairs_fault_place (pairs.BadLength n) ≡ length bs)
 PairsRefused bs (pairs.Unlawful x) = WholeRows bs × (pairs_fault_number (pairs.Unlawful x) ≡ 15) × LowestUnlawful (paired bs) (pairs_fault_place (pairs.Unlawful x))
 
--- granted: the order is what the bytes say; refused: nothing changed
-abbrev pub PairsAnswer : Preference → Preference → List ℕ → Result (Unit {0}) PairsFault → Type 0
-PairsAnswer old new bs (Ok u) = PairsLawful bs × (new ≡ paired bs)
-PairsAnswer old new bs (Err f) = PairsRefused bs f × (new ≡ old)
+-- 7 with the length
+abbrev pub RanksRefused : List ℕ → BadLength 7 → Type 0
+RanksRefused bs f = (RanksLawful bs → ⊥) × (bad_length_number f ≡ 7) × (bad_length_place f ≡ length bs)
 
--- granted: the order is what the ranks say; refused, by number 7 and the length: nothing changed
-abbrev pub RanksAnswer : Preference → Preference → List ℕ → Result (Unit {0}) RanksFault → Type 0
-RanksAnswer old new bs (Ok u) = RanksLawful bs × (new ≡ ranked bs)
-RanksAnswer old new bs (Err f) = (RanksLawful bs → ⊥) × (ranks_fault_number f ≡ 7) × (ranks_fault_place f ≡ length bs) × (new ≡ old)
+-- granted: the bytes are lawful, and the order is what they say; refused: nothing changed
+abbrev pub FillAnswer : {F : Type 0} → (List ℕ → Type 0) → (List ℕ → Preference) → (List ℕ → F → Type 0) → Preference → Preference → List ℕ → Result (Unit {0}) F → Type 0
+FillAnswer Lawful said Refused old new bs (Ok u) = Lawful bs × (new ≡ said bs)
+FillAnswer Lawful said Refused old new bs (Err f) = Refused bs f × (new ≡ old)

@@ -1,7 +1,7 @@
 // Why an order is not filled. Each case holds the place that is reported with it.
-ghost use Rattle.orders.specs.Faults.{pairs_fault_number, pairs_fault_place, ranks_fault_number, ranks_fault_place};
+ghost use Rattle.orders.specs.Faults.{pairs_fault_number, pairs_fault_place};
 
-use logic::refusal::Refusal;
+use logic::refusal::{BadLength, Refusal};
 
 #[derive(Clone, Copy)]
 pub enum PairsFault {
@@ -11,11 +11,7 @@ pub enum PairsFault {
     Unlawful(u8),
 }
 
-#[derive(Clone, Copy)]
-pub enum RanksFault {
-    // with the length
-    BadLength(usize),
-}
+pub type RanksFault = BadLength<7>;
 
 impl Refusal for PairsFault {
     ghost numbered = { pairs_fault_number };
@@ -33,24 +29,6 @@ impl Refusal for PairsFault {
         match *self {
             PairsFault::BadLength(length) => length,
             PairsFault::Unlawful(x) => x as usize,
-        }
-    }
-}
-
-impl Refusal for RanksFault {
-    ghost numbered = { ranks_fault_number };
-
-    ghost placed = { ranks_fault_place };
-
-    fn number(&self) -> u8 {
-        match self {
-            RanksFault::BadLength(_) => 7,
-        }
-    }
-
-    fn place(&self) -> usize {
-        match *self {
-            RanksFault::BadLength(length) => length,
         }
     }
 }

@@ -3,6 +3,7 @@
 
 pub mod bytes;
 pub mod faults;
+pub mod filled;
 pub mod laws;
 pub mod masks;
 pub mod order;

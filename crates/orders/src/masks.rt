@@ -13,7 +13,7 @@ pub fn all_below(n: u8) -> u32
 pub fn contains(set: u32, x: u8) -> bool
     ensures { result ≡ has set x }
 {
-    if x < 32 { (set >> x) & 1 == 1 } else { false }
+    x < 32 && (set >> x) & 1 == 1
 }
 
 // Whether the set has only elements below n.
@@ -44,7 +44,8 @@ pub fn without(set: u32, other: u32) -> u32
     set ^ (set & other)
 }
 
-// A property of elements that can be tested.
+// A property of elements that can be tested. A trait and no closure, which would put a `requires` on the
+// public call below.
 pub trait Property {
     ghost holds: { Self → ℕ → Bool };
 
@@ -56,9 +57,7 @@ pub trait Property {
 pub fn mask_of<P: Property>(property: &P, n: u8) -> u32
     ensures { result ≡ mask_of (P.holds property.now) (min n 32) }
 {
-    let mut mask: u32 = 0;
-    for x in (0..n.min(32)).rev() {
-        mask = 2 * mask + property.test(x) as u32;
-    }
-    mask
+    (0..n.min(32))
+        .rev()
+        .fold(0u32, |mask, x| mask << 1 | property.test(x) as u32)
 }

@@ -1,55 +1,51 @@
 // An order by pairs: the bytes have, for each element, the set of the elements that are better.
-ghost use Rattle.std.specs.Prelude.{◌≡◌, ℕ, ◌<◌, ◌≤◌, length, is_ok, Decides};
-ghost use Rattle.orders.specs.Masks.{by_rows, alone, Table};
+ghost use Rattle.std.specs.Prelude.{◌≡◌, ℕ, ◌<◌, ◌≤◌, length, Decides};
+ghost use Rattle.orders.specs.Masks.{by_rows, Table};
 ghost use Rattle.orders.specs.PairLaws.{paired, ClosedAt, LawfulRow, FirstUnlawful, PairsLawful};
-ghost use Rattle.orders.specs.Held.{order_of, order_strict};
-ghost use Rattle.orders.specs.Answers.{PairsAnswer};
+ghost use Rattle.orders.specs.Answers.{PairsRefused};
 
 use crate::bytes::word_at;
 use crate::faults::PairsFault;
+use crate::filled::{Encoding, Filled};
 use crate::masks::{contains, includes, within};
-use crate::order::Order;
 use crate::rows::Rows;
 
+// Four bytes for each element, 1 to 32 of them: the set of its better elements as a mask, low byte first.
+pub struct ByPairs;
+
+pub type Pairs = Filled<ByPairs>;
+
+// The rows of at most 32 elements, of which no law is known yet.
 #[derive(Drop)]
-pub struct Pairs {
-    rows: Rows,
+struct Offer {
+    size: u8,
+    rows: [u32; 32],
+    ghost few: { size ≤ 32 },
 }
 
-// Whether the row includes the row of each element that it has.
-fn closed(rows: &[u32; 32], n: u8, row: u32) -> bool
-    requires { n ≤ 32 }
-    ensures { Decides result ((y : ℕ) → y < n → ClosedAt rows.now row y) }
-{
-    for y in 0..n {
-        if contains(row, y) && !includes(row, rows[y as usize]) {
-            return false;
-        }
+impl Offer {
+    // Whether the row includes the row of each element that it has.
+    fn closed(&self, row: u32) -> bool
+        ensures { Decides result ((y : ℕ) → y < self.now.size → ClosedAt self.now.rows row y) }
+    {
+        (0..self.size).all(|y| !contains(row, y) || includes(row, self.rows[y as usize]))
     }
-    true
-}
 
-// Whether row x, of n rows, is lawful.
-fn lawful_row(rows: &[u32; 32], n: u8, x: u8) -> bool
-    requires few { n ≤ 32 }
-    requires there { x < n }
-    ensures { Decides result (LawfulRow (by_rows n rows.now) x) }
-{
-    let row = rows[x as usize];
-    within(row, n) && !contains(row, x) && closed(rows, n, row)
-}
-
-// The lowest of n rows that is not lawful, if there is one.
-fn first_unlawful(rows: &[u32; 32], n: u8) -> Option<u8>
-    requires { n ≤ 32 }
-    ensures { FirstUnlawful (by_rows n rows.now) result }
-{
-    for x in 0..n {
-        if !lawful_row(rows, n, x) {
-            return Some(x);
-        }
+    // Whether row x is lawful.
+    fn lawful_row(&self, x: u8) -> bool
+        requires { x < self.now.size }
+        ensures { Decides result (LawfulRow (by_rows self.now.size self.now.rows) x) }
+    {
+        let row = self.rows[x as usize];
+        within(row, self.size) && !contains(row, x) && self.closed(row)
     }
-    None
+
+    // The lowest row that is not lawful, if there is one.
+    fn first_unlawful(&self) -> Option<u8>
+        ensures { FirstUnlawful (by_rows self.now.size self.now.rows) result }
+    {
+        (0..self.size).find(|x| !self.lawful_row(*x))
+    }
 }
 
 // The rows of the bytes, and empty ones up to 32.
@@ -57,51 +53,30 @@ fn rows_of(bytes: &[u8]) -> [u32; 32]
     requires { length bytes.now ≤ 128 }
     ensures { Table (paired bytes.now).better result }
 {
-    let mut rows = [0; 32];
-    for x in 0..32 {
-        rows[x] = word_at(bytes, 4 * x as u16);
-    }
-    rows
+    std::array::from_fn(|x| word_at(bytes, 4 * x as u16))
 }
 
-impl Pairs {
-    // One element, and none better.
-    pub fn new() -> Pairs
-        ensures { order_of result.rows ≡ alone }
-    {
-        Pairs { rows: Rows::new() }
-    }
+impl Encoding for ByPairs {
+    type Fault = PairsFault;
 
-    // Takes four bytes for each element, 1 to 32 of them, the set of its better elements as a mask, low
-    // byte first; granted exactly when they are a strict order.
-    pub fn fill(&mut self, bytes: &[u8]) -> Result<(), PairsFault>
-        ensures answer { PairsAnswer (order_of self.old.rows) (order_of self.new.rows) bytes.now result }
-        ensures exact { Decides (is_ok result) (PairsLawful bytes.now) }
-    {
+    ghost Lawful = { PairsLawful };
+
+    ghost said = { paired };
+
+    ghost Refused = { PairsRefused };
+
+    fn read(bytes: &[u8]) -> Result<Rows, PairsFault> {
         let n = bytes.len();
         if n % 4 != 0 || n < 4 || n > 128 {
             return Err(PairsFault::BadLength(n));
         }
-        let size = (n / 4) as u8;
-        let rows = rows_of(bytes);
-        if let Some(x) = first_unlawful(&rows, size) {
+        let offer = Offer {
+            size: (n / 4) as u8,
+            rows: rows_of(bytes),
+        };
+        if let Some(x) = offer.first_unlawful() {
             return Err(PairsFault::Unlawful(x));
         }
-        self.rows = Rows::of(size, rows);
-        Ok(())
-    }
-}
-
-impl Order for Pairs {
-    ghost meaning = { λ o. order_of o.rows };
-
-    ghost strict = { λ o. order_strict o.rows };
-
-    fn size(&self) -> u8 {
-        self.rows.size()
-    }
-
-    fn better(&self, x: u8) -> u32 {
-        self.rows.better(x)
+        Ok(Rows::of(offer.size, offer.rows))
     }
 }

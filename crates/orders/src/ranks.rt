@@ -1,22 +1,23 @@
 // An order by ranks: the bytes have a rank for each element, and a lower rank is better.
-ghost use Rattle.std.specs.Prelude.{◌≡◌, ◌≤◌, ltb, length, is_ok, Decides, nat_lt};
+ghost use Rattle.std.specs.Prelude.{◌≡◌, ◌≤◌, length, nat_lt};
 ghost use Rattle.orders.specs.Bytes.{byte};
-ghost use Rattle.orders.specs.Masks.{mask_of, alone, Table};
+ghost use Rattle.orders.specs.Masks.{Table};
 ghost use Rattle.orders.specs.RankLaws.{ranked, RanksLawful};
-ghost use Rattle.orders.specs.Held.{order_of, order_strict};
-ghost use Rattle.orders.specs.Answers.{RanksAnswer};
+ghost use Rattle.orders.specs.Answers.{RanksRefused};
 
 use crate::bytes::byte_at;
 use crate::faults::RanksFault;
-use crate::order::Order;
+use crate::filled::{Encoding, Filled};
+use crate::masks::{Property, mask_of};
 use crate::rows::Rows;
+use logic::refusal::BadLength;
 
 const LIMIT: usize = 32;
 
-#[derive(Drop)]
-pub struct Ranks {
-    rows: Rows,
-}
+// One byte for each element, 1 to 32 of them: its rank.
+pub struct ByRanks;
+
+pub type Ranks = Filled<ByRanks>;
 
 // Whether rank a is better than rank b.
 fn beats(a: u8, b: u8) -> bool
@@ -25,16 +26,28 @@ fn beats(a: u8, b: u8) -> bool
     a < b
 }
 
-// The elements whose rank is lower than `rank`.
-fn lower(ranks: &[u8], rank: u8) -> u32
-    requires { length ranks.now ≤ 32 }
-    ensures { result ≡ mask_of (λ y. ltb (byte ranks.now y) rank) (length ranks.now) }
-{
-    let mut mask: u32 = 0;
-    for y in (0..ranks.len()).rev() {
-        mask = 2 * mask + beats(ranks[y], rank) as u32;
+// Having a rank lower than `rank`.
+#[derive(Drop)]
+struct LowerThan<'a> {
+    ranks: &'a [u8],
+    rank: u8,
+}
+
+impl<'a> Property for LowerThan<'a> {
+    ghost holds = { λ p y. nat_lt (byte p.ranks.now y) p.rank };
+
+    fn test(&self, y: u8) -> bool {
+        beats(byte_at(self.ranks, y as usize), self.rank)
     }
-    mask
+}
+
+// The elements whose rank is lower than that of x.
+fn lower(ranks: &[u8], x: usize) -> u32
+    requires { length ranks.now ≤ 32 }
+    ensures { result ≡ (ranked ranks.now).better x }
+{
+    let rank = byte_at(ranks, x);
+    mask_of(&LowerThan { ranks, rank }, ranks.len() as u8)
 }
 
 // For each element the elements of lower rank, and empty sets up to 32.
@@ -42,45 +55,23 @@ fn rows_of(ranks: &[u8]) -> [u32; 32]
     requires { length ranks.now ≤ 32 }
     ensures { Table (ranked ranks.now).better result }
 {
-    let mut rows = [0; 32];
-    for x in 0..32 {
-        rows[x] = lower(ranks, byte_at(ranks, x));
-    }
-    rows
+    std::array::from_fn(|x| lower(ranks, x))
 }
 
-impl Ranks {
-    // One element, and none better.
-    pub fn new() -> Ranks
-        ensures { order_of result.rows ≡ alone }
-    {
-        Ranks { rows: Rows::new() }
-    }
+impl Encoding for ByRanks {
+    type Fault = RanksFault;
 
-    // Takes one byte for each element, its rank; granted exactly when there are 1 to 32.
-    pub fn fill(&mut self, bytes: &[u8]) -> Result<(), RanksFault>
-        ensures answer { RanksAnswer (order_of self.old.rows) (order_of self.new.rows) bytes.now result }
-        ensures exact { Decides (is_ok result) (RanksLawful bytes.now) }
-    {
+    ghost Lawful = { RanksLawful };
+
+    ghost said = { ranked };
+
+    ghost Refused = { RanksRefused };
+
+    fn read(bytes: &[u8]) -> Result<Rows, RanksFault> {
         let n = bytes.len();
         if n < 1 || n > LIMIT {
-            return Err(RanksFault::BadLength(n));
+            return Err(BadLength(n));
         }
-        self.rows = Rows::of(n as u8, rows_of(bytes));
-        Ok(())
-    }
-}
-
-impl Order for Ranks {
-    ghost meaning = { λ o. order_of o.rows };
-
-    ghost strict = { λ o. order_strict o.rows };
-
-    fn size(&self) -> u8 {
-        self.rows.size()
-    }
-
-    fn better(&self, x: u8) -> u32 {
-        self.rows.better(x)
+        Ok(Rows::of(n as u8, rows_of(bytes)))
     }
 }

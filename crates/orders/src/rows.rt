@@ -1,9 +1,10 @@
-// A strict order by rows: row x is the mask of the elements better than x. Each kind of order holds one.
+// A strict order by rows: row x is the mask of the elements better than x. Each kind of order holds one. The size
+// stands beside the masks, since they have fixed memory.
 ghost use Rattle.std.specs.Prelude.{◌≡◌, slice_index};
 ghost use Rattle.orders.specs.Masks.{Strict, by_rows, alone};
 
 #[derive(Drop)]
-pub(crate) struct Rows {
+pub struct Rows {
     size: u8,
     masks: [u32; 32],
     ghost strict: { ∥ Strict (by_rows size masks) ∥₁ },
@@ -35,6 +36,6 @@ impl Rows {
     pub(crate) fn better(&self, x: u8) -> u32
         ensures { result ≡ slice_index self.now.masks x }
     {
-        if x < 32 { self.masks[x as usize] } else { 0 }
+        self.masks.get(x as usize).copied().unwrap_or(0)
     }
 }

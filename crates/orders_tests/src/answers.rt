@@ -1,33 +1,13 @@
-// What a call answered, in numbers that can be compared.
-use logic::refusal::Refusal;
+// What a call answered, in numbers that can be compared, and what an order is.
+use logic::refusal::told;
+use orders::filled::{Encoding, Filled};
 use orders::masks::all_below;
 use orders::order::Order;
-use orders::pairs::Pairs;
-use orders::ranks::Ranks;
 use std::process::Abort;
 
-#[derive(Clone, Copy, PartialEq, Eq, Debug)]
-pub enum Answer {
-    Granted,
-    Refused(u8, usize),
-}
-
-fn refused<F: Refusal>(fault: &F) -> Answer {
-    Answer::Refused(fault.number(), fault.place())
-}
-
-pub(crate) fn fill_pairs(order: &mut Pairs, bytes: &[u8]) -> Answer {
-    match order.fill(bytes) {
-        Ok(()) => Answer::Granted,
-        Err(fault) => refused(&fault),
-    }
-}
-
-pub(crate) fn fill_ranks(order: &mut Ranks, bytes: &[u8]) -> Answer {
-    match order.fill(bytes) {
-        Ok(()) => Answer::Granted,
-        Err(fault) => refused(&fault),
-    }
+// A refusal by its number and its place.
+pub(crate) fn fill<E: Encoding>(order: &mut Filled<E>, bytes: &[u8]) -> Result<(), (u8, usize)> {
+    order.fill(bytes).map_err(|fault| told(&fault))
 }
 
 // The order has one element.

@@ -1,5 +1,5 @@
 // Orders by pairs.
-use crate::answers::{Answer, fill_pairs, is_alone, is_chain, is_pair};
+use crate::answers::{fill, is_alone, is_chain, is_pair};
 use orders::order::Order;
 use orders::pairs::Pairs;
 
@@ -21,73 +21,70 @@ const PAIR: [u8; 8] = [2, 0, 0, 0, 0, 0, 0, 0];
 fn fresh_and_one_element(rt: HostRuntime) {
     let mut order = Pairs::new();
     is_alone(&rt, &order);
-    assert_eq!(rt; fill_pairs(&mut order, &[0; 4]), Answer::Granted);
+    assert_eq!(rt; fill(&mut order, &[0; 4]), Ok(()));
     is_alone(&rt, &order);
 }
 
 #[test]
 fn lengths(rt: HostRuntime) {
     let mut order = Pairs::new();
-    assert_eq!(rt; fill_pairs(&mut order, &[]), Answer::Refused(7, 0));
-    assert_eq!(rt; fill_pairs(&mut order, &[0; 3]), Answer::Refused(7, 3));
-    assert_eq!(rt; fill_pairs(&mut order, &[0; 126]), Answer::Refused(7, 126));
-    assert_eq!(rt; fill_pairs(&mut order, &[0; 132]), Answer::Refused(7, 132));
+    assert_eq!(rt; fill(&mut order, &[]), Err((7, 0)));
+    assert_eq!(rt; fill(&mut order, &[0; 3]), Err((7, 3)));
+    assert_eq!(rt; fill(&mut order, &[0; 126]), Err((7, 126)));
+    assert_eq!(rt; fill(&mut order, &[0; 132]), Err((7, 132)));
     assert_eq!(rt; order.size(), 1);
-    assert_eq!(rt; fill_pairs(&mut order, &[0; 128]), Answer::Granted);
+    assert_eq!(rt; fill(&mut order, &[0; 128]), Ok(()));
     assert_eq!(rt; order.size(), 32);
-    assert_eq!(rt; fill_pairs(&mut order, &[0; 4]), Answer::Granted);
+    assert_eq!(rt; fill(&mut order, &[0; 4]), Ok(()));
     assert_eq!(rt; order.size(), 1);
 }
 
 #[test]
 fn thirty_two_elements(rt: HostRuntime) {
     let mut order = Pairs::new();
-    assert_eq!(rt; fill_pairs(&mut order, CHAIN), Answer::Granted);
+    assert_eq!(rt; fill(&mut order, CHAIN), Ok(()));
     is_chain(&rt, &order);
     // the last row names itself
     let mut bytes = *CHAIN;
     bytes[127] = 255;
-    assert_eq!(rt; fill_pairs(&mut order, &bytes), Answer::Refused(15, 31));
+    assert_eq!(rt; fill(&mut order, &bytes), Err((15, 31)));
     is_chain(&rt, &order);
     // a smaller order leaves nothing of a larger one
-    assert_eq!(rt; fill_pairs(&mut order, &[0; 4]), Answer::Granted);
+    assert_eq!(rt; fill(&mut order, &[0; 4]), Ok(()));
     is_alone(&rt, &order);
 }
 
 #[test]
 fn two_elements(rt: HostRuntime) {
     let mut order = Pairs::new();
-    assert_eq!(rt; fill_pairs(&mut order, &PAIR), Answer::Granted);
+    assert_eq!(rt; fill(&mut order, &PAIR), Ok(()));
     is_pair(&rt, &order);
     // each better than the other
-    assert_eq!(rt;
-        fill_pairs(&mut order, &[2, 0, 0, 0, 1, 0, 0, 0]),
-        Answer::Refused(15, 0)
-    );
+    assert_eq!(rt; fill(&mut order, &[2, 0, 0, 0, 1, 0, 0, 0]), Err((15, 0)));
 }
 
 #[test]
 fn chains_of_three(rt: HostRuntime) {
     let mut order = Pairs::new();
     assert_eq!(rt;
-        fill_pairs(&mut order, &[0, 0, 0, 0, 1, 0, 0, 0, 3, 0, 0, 0]),
-        Answer::Granted
+        fill(&mut order, &[0, 0, 0, 0, 1, 0, 0, 0, 3, 0, 0, 0]),
+        Ok(())
     );
     assert_eq!(rt; order.better(2), 3);
     assert_eq!(rt;
-        fill_pairs(&mut order, &[6, 0, 0, 0, 4, 0, 0, 0, 0, 0, 0, 0]),
-        Answer::Granted
+        fill(&mut order, &[6, 0, 0, 0, 4, 0, 0, 0, 0, 0, 0, 0]),
+        Ok(())
     );
     assert_eq!(rt; order.better(0), 6);
     // 0 is better than 1, and 1 than 2, but not 0 than 2
     assert_eq!(rt;
-        fill_pairs(&mut order, &[0, 0, 0, 0, 1, 0, 0, 0, 2, 0, 0, 0]),
-        Answer::Refused(15, 2)
+        fill(&mut order, &[0, 0, 0, 0, 1, 0, 0, 0, 2, 0, 0, 0]),
+        Err((15, 2))
     );
     // a ring: every set lacks something, and the lowest is named
     assert_eq!(rt;
-        fill_pairs(&mut order, &[2, 0, 0, 0, 4, 0, 0, 0, 1, 0, 0, 0]),
-        Answer::Refused(15, 0)
+        fill(&mut order, &[2, 0, 0, 0, 4, 0, 0, 0, 1, 0, 0, 0]),
+        Err((15, 0))
     );
 }
 
@@ -95,39 +92,24 @@ fn chains_of_three(rt: HostRuntime) {
 fn unlawful_rows(rt: HostRuntime) {
     let mut order = Pairs::new();
     // itself
-    assert_eq!(rt;
-        fill_pairs(&mut order, &[1, 0, 0, 0]),
-        Answer::Refused(15, 0)
-    );
-    assert_eq!(rt;
-        fill_pairs(&mut order, &[0, 0, 0, 0, 2, 0, 0, 0]),
-        Answer::Refused(15, 1)
-    );
+    assert_eq!(rt; fill(&mut order, &[1, 0, 0, 0]), Err((15, 0)));
+    assert_eq!(rt; fill(&mut order, &[0, 0, 0, 0, 2, 0, 0, 0]), Err((15, 1)));
     // past the size
-    assert_eq!(rt;
-        fill_pairs(&mut order, &[2, 0, 0, 0]),
-        Answer::Refused(15, 0)
-    );
-    assert_eq!(rt;
-        fill_pairs(&mut order, &[0, 0, 0, 128]),
-        Answer::Refused(15, 0)
-    );
-    assert_eq!(rt;
-        fill_pairs(&mut order, &[0, 0, 0, 0, 4, 0, 0, 0]),
-        Answer::Refused(15, 1)
-    );
+    assert_eq!(rt; fill(&mut order, &[2, 0, 0, 0]), Err((15, 0)));
+    assert_eq!(rt; fill(&mut order, &[0, 0, 0, 128]), Err((15, 0)));
+    assert_eq!(rt; fill(&mut order, &[0, 0, 0, 0, 4, 0, 0, 0]), Err((15, 1)));
     is_alone(&rt, &order);
 }
 
 #[test]
 fn a_refused_fill_changes_nothing(rt: HostRuntime) {
     let mut order = Pairs::new();
-    assert_eq!(rt; fill_pairs(&mut order, &PAIR), Answer::Granted);
-    assert_eq!(rt; fill_pairs(&mut order, &[0; 3]), Answer::Refused(7, 3));
+    assert_eq!(rt; fill(&mut order, &PAIR), Ok(()));
+    assert_eq!(rt; fill(&mut order, &[0; 3]), Err((7, 3)));
     is_pair(&rt, &order);
     assert_eq!(rt;
-        fill_pairs(&mut order, &[0, 0, 0, 0, 2, 0, 0, 0, 0, 0, 0, 0]),
-        Answer::Refused(15, 1)
+        fill(&mut order, &[0, 0, 0, 0, 2, 0, 0, 0, 0, 0, 0, 0]),
+        Err((15, 1))
     );
     is_pair(&rt, &order);
 }

@@ -1,42 +1,28 @@
 -- The steps of the check: faults, marks, one record more, the whole. Assumes nothing.
-use Rattle.std.proofs.Common.{◌≡◌, ℕ, zero, suc, ◌+◌, ◌<◌, Bool, true, false, ◌&&◌, eqb, leb, List, [], ◌∷◌, ◌++◌, length, get_or, set, replicate, sym, refl, ap, ◌∙◌, subst, inl, inr, arith}
+use Rattle.std.proofs.Common.{◌≡◌, ℕ, zero, suc, ◌+◌, ◌<◌, Bool, true, cond, ◌&&◌, eqb, leb, List, [], ◌∷◌, ◌++◌, length, get_or, set, replicate, Result, Ok, Err, MatchResult, sym, refl, ap, ◌∙◌, subst, inl, inr, arith}
+use Rattle.std.specs.Result.{IsOkAnd}
 use Rattle.std.proofs.lemmas.List.{get_or-set_same, get_or-set_other, get_or_push}
 use Rattle.std.proofs.lemmas.Bool.{cases_eq, cases_lt, lt-leb, false≢true}
 use Rattle.logic.specs.declared.records.Node.{Node}
-use Rattle.logic.specs.declared.records.RawNode.{RawNode}
-use Rattle.logic.specs.declared.records.RawEntry.{RawEntry}
 use Rattle.logic.specs.Concepts.{bottom, of, read, concepts, plain}
-use Rattle.logic.specs.Books.{Book}
-use Rattle.logic.specs.Refusals.{node_refusal, entry_refusal}
 use Rattle.logic.proofs.Reading.{concepts-push, length-concepts}
-use Rattle.books.specs.declared.faults.NodeFault.{NodeFault}
-use Rattle.books.specs.declared.faults.NodeFault.TheVariants as nodes
-use Rattle.books.specs.declared.faults.EnterFault.{EnterFault}
-use Rattle.books.specs.declared.faults.EnterFault.TheVariants as enters
-use Rattle.books.specs.Faults.{node_fault_number, enter_fault_number}
+use Rattle.books.specs.declared.faults.Unfit.TheVariants as unfit
 use Rattle.books.proofs.Replays.{get_or-push_other}
+use Rattle.sealed.specs.declared.frame.Frame.{Frame}
 use Rattle.sealed.specs.declared.faults.CheckFault.{CheckFault}
 use Rattle.sealed.specs.declared.faults.CheckFault.TheVariants as checks
 use Rattle.sealed.specs.Writing.{records_length, Sealed}
 use Rattle.sealed.specs.Faults.{check_fault_number}
-use Rattle.sealed.specs.Checks.{Granted, Passes, FirstRefused, Bad}
-use Rattle.sealed.specs.Steps.{Marks}
+use Rattle.sealed.specs.Reading.{byte_at, sealed_book}
+use Rattle.sealed.specs.Checks.{Granted, Passes, FirstRefused, Bad, CheckAnswer}
+use Rattle.sealed.specs.Frames.{Trailed}
+use Rattle.sealed.specs.Steps.{Marks, NodesGranted, NodeFirstRefused, EntriesChecked, FrameChecked}
+use Rattle.sealed.proofs.Passing.{passed_sealed}
 use Rattle.sealed.proofs.Sealing.{sealed_passes}
 
--- a book that is not full has another reason to refuse
-pub node_past_full : (bk : Book) (raw : RawNode) (f : NodeFault) → length bk.nodes < 512 → node_refusal bk raw ≡ node_fault_number f → 1 < node_fault_number f
-node_past_full bk raw (nodes.Full n) h e = let room : leb 512 (length bk.nodes) ≡ false = lt-leb 512 (length bk.nodes) h in absurd (grind arith)
-node_past_full bk raw (nodes.UnknownKind n) h e = omega arith
-node_past_full bk raw (nodes.OutOfRange n) h e = omega arith
-node_past_full bk raw (nodes.NoSuchNode n) h e = omega arith
-node_past_full bk raw (nodes.TypicalMisplaced n) h e = omega arith
-
-pub entry_past_full : (bk : Book) (raw : RawEntry) (f : EnterFault) → length bk.lines < 256 → entry_refusal bk raw ≡ enter_fault_number f → 1 < enter_fault_number f
-entry_past_full bk raw (enters.Full n) h e = let room : leb 256 (length bk.lines) ≡ false = lt-leb 256 (length bk.lines) h in absurd (grind arith)
-entry_past_full bk raw (enters.UnknownKind n) h e = omega arith
-entry_past_full bk raw (enters.OutOfRange n) h e = omega arith
-entry_past_full bk raw (enters.NoSuchNode n) h e = omega arith
-entry_past_full bk raw (enters.TypicalMisplaced n) h e = omega arith
+-- a book with room refuses a record only because it does not fit
+pub with_room : (limit count unfit : ℕ) → count < limit → cond (leb limit count) 1 unfit ≡ unfit
+with_room limit count unfit h = ap (λ b. cond b 1 unfit) (lt-leb limit count h)
 
 -- marks of no node
 pub no_marks : (n : ℕ) → Marks (replicate n true) []
@@ -62,10 +48,10 @@ granted_more refusal i g h k l = elim (cases_lt k i) [ inl below ↦ g k below |
 -- no fault has number 0
 check_fault_not_0 : (f : CheckFault) → check_fault_number f ≡ 0 → ⊥
 check_fault_not_0 (checks.BadFrame n) h = omega arith
-check_fault_not_0 (checks.UnknownKind n) h = omega arith
-check_fault_not_0 (checks.OutOfRange n) h = omega arith
-check_fault_not_0 (checks.NoSuchNode n) h = omega arith
-check_fault_not_0 (checks.TypicalMisplaced n) h = omega arith
+check_fault_not_0 (checks.BadRecord unfit.UnknownKind n) h = omega arith
+check_fault_not_0 (checks.BadRecord unfit.OutOfRange n) h = omega arith
+check_fault_not_0 (checks.BadRecord unfit.NoSuchNode n) h = omega arith
+check_fault_not_0 (checks.BadRecord unfit.TypicalMisplaced n) h = omega arith
 
 -- a record that is refused is not granted
 not_granted : (refusal : ℕ → ℕ) (n from size : ℕ) (f : CheckFault) → FirstRefused refusal n from size f → Granted refusal n → ⊥
@@ -92,3 +78,19 @@ bad_unsealed bs f bad (bk, sealed) = bad_fails bs _ _ f bad (sealed_passes bs bk
 -- the tests of a trailer, at equal numbers
 pub fits_is : (room n n' m m' d d' : ℕ) → n ≡ n' → m ≡ m' → d ≡ d' → (leb n 512 && (leb m 256 && (eqb d (records_length n m) && leb d room))) ≡ (leb n' 512 && (leb m' 256 && (eqb d' (records_length n' m') && leb d' room)))
 fits_is room n n' m m' d d' nodes entries far = λ i. leb (nodes i) 512 && (leb (entries i) 256 && (eqb (far i) (records_length (nodes i) (entries i)) && leb (far i) room))
+
+-- what is wrong with the bytes of a frame, by the record that is refused
+module _ (bs : List ℕ) (f : Frame) (is : f.bytes.now ≡ bs) (t : Trailed f) (fault : CheckFault) where
+  pub bad_node : NodeFirstRefused f fault → Bad bs fault
+  bad_node first = subst (λ b. Bad b fault) is (Bad.node t.fits t.nodes_are t.entries_are first)
+
+  pub bad_entry : NodesGranted f → EntriesChecked f (Err fault) → Bad bs fault
+  bad_entry good first = subst (λ b. Bad b fault) is (Bad.entry t.fits t.nodes_are t.entries_are good first)
+
+-- what check answers, by the frame that was checked
+pub check_answer : (Q : Frame → Unit {0} → Type 0) (bs : List ℕ) (r : Result Frame CheckFault) (answer : Result (Unit {0}) CheckFault) → ((k : ℕ) → byte_at bs k < 256) → FrameChecked bs r → MatchResult r (λ f. IsOkAnd answer (Q f)) (λ fault. answer ≡ Err fault) → CheckAnswer bs answer
+check_answer Q bs (Ok f) (Ok u) bytes h m =
+    let p = subst (λ b. Passes b f.counts.nodes f.counts.entries) h.0 h.1 in
+    (sealed_book bs f.counts.nodes f.counts.entries, passed_sealed bs f.counts.nodes f.counts.entries p bytes)
+check_answer Q bs (Ok f) (Err fault) bytes h m = absurd m
+check_answer Q bs (Err fault) answer bytes h m = subst (CheckAnswer bs) (sym m) (bad_unsealed bs fault h, h)

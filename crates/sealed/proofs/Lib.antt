@@ -4,6 +4,8 @@ pub mod Numbers
 pub mod Records
 -- the records from an offset on
 pub mod Rows
+-- the records of a frame
+pub mod Framing
 -- bytes that pass are a sealed book
 pub mod Passing
 -- a sealed book passes and reads back

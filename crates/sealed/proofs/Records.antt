@@ -6,9 +6,8 @@ use Rattle.logic.specs.declared.records.Node.{Node}
 use Rattle.logic.specs.declared.records.Entry.{Entry}
 use Rattle.logic.specs.declared.records.Entry.TheVariants as entry
 use Rattle.logic.specs.declared.records.Line.{Line}
-use Rattle.logic.specs.Written.{node_kind, node_a, node_b, entry_kind, entry_a, entry_b, entry_c}
+use Rattle.logic.specs.Written.{node_kind, node_a, node_b, entry_kind, entry_a, entry_b, entry_c, WritesNode, WritesEntry}
 use Rattle.logic.specs.Lawful.{entry_known}
-use Rattle.logic.specs.Refusals.{WritesNode, WritesEntry}
 use Rattle.sealed.specs.Writing.{u16_bytes, node_bytes, line_bytes}
 use Rattle.sealed.specs.Reading.{byte_at, u16_at, raw_node_at, raw_entry_at}
 use Rattle.sealed.proofs.Numbers.{byte_written, u16_from, low_byte, high_byte, bytes_from}

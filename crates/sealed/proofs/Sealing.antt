@@ -9,11 +9,11 @@ use Rattle.logic.specs.declared.records.Node.{Node}
 use Rattle.logic.specs.declared.records.Node.TheVariants as node
 use Rattle.logic.specs.declared.records.Entry.{Entry}
 use Rattle.logic.specs.declared.records.Line.{Line}
-use Rattle.logic.specs.Written.{node_of}
+use Rattle.logic.specs.Written.{node_of, WritesNode, WritesEntry}
 use Rattle.logic.specs.Concepts.{concepts}
 use Rattle.logic.specs.Books.{Book, node_at, no_line, line_at}
 use Rattle.logic.specs.Lawful.{Lawful, entry_known, entry_well_formed, entry_placed}
-use Rattle.logic.specs.Refusals.{node_refusal, entry_refusal, WritesNode, WritesEntry}
+use Rattle.logic.specs.Refusals.{node_refusal, entry_refusal}
 use Rattle.logic.proofs.Lawfulness.{node_parts, entry_parts, lawful_nodes_front, lawful_lines_front}
 use Rattle.logic.proofs.Refusing.{node_read, node_taken, entry_read, entry_taken}
 use Rattle.sealed.specs.Writing.{node_bytes, line_bytes, records_length, trailer_bytes, written, SealedAs}

@@ -2,10 +2,11 @@
 -- Passes: the trailer fits and every record is granted in its turn. CheckAnswer, SealAnswer.
 -- Assumes nothing.
 use Rattle.std.specs.Prelude.{◌≡◌, ℕ, ◌+◌, ◌*◌, ◌<◌, true, false, List, [], ◌++◌, length, drop, Ok, Err, Result}
+use Rattle.logic.specs.declared.refusal.BadLength.{BadLength}
+use Rattle.logic.specs.Lengths.{bad_length_number, bad_length_place}
 use Rattle.logic.specs.Books.{Book, empty}
 use Rattle.sealed.specs.declared.faults.CheckFault.{CheckFault}
-use Rattle.sealed.specs.declared.faults.SealFault.{SealFault}
-use Rattle.sealed.specs.Faults.{check_fault_number, check_fault_place, seal_fault_number, seal_fault_place}
+use Rattle.sealed.specs.Faults.{check_fault_number, check_fault_place}
 use Rattle.sealed.specs.Writing.{written, Sealed, SealedAs}
 use Rattle.sealed.specs.Reading.{framed, node_total, entry_total, node_start, entry_start, nodes_in, node_refusal_in, entry_refusal_in}
 
@@ -45,10 +46,10 @@ CheckAnswer bs (Err f) = (Sealed bs → ⊥) × Bad bs f
 
 -- sealed: the writing stands at the front of the buffer, the rest of which is as it was; refused:
 -- the buffer is too short for the writing, and nothing changed
-abbrev pub SealAnswer : Book → List ℕ → List ℕ → Result ℕ SealFault → Type 0
+abbrev pub SealAnswer : Book → List ℕ → List ℕ → Result ℕ (BadLength 20) → Type 0
 SealAnswer bk out out' (Ok n) = (n ≡ length (written bk)) × (out' ≡ written bk ++ drop n out)
 SealAnswer bk out out' (Err f) =
-    (length out < length (written bk)) × (seal_fault_number f ≡ 20) × (seal_fault_place f ≡ length out) × (out' ≡ out)
+    (length out < length (written bk)) × (bad_length_number f ≡ 20) × (bad_length_place f ≡ length out) × (out' ≡ out)
 
 -- what a book that was sealed in these bytes is when they are opened, and what no sealed book is
 pub record Opened (bs : List ℕ) (bk : Book) : Type 0 where

@@ -2,6 +2,8 @@
 pub mod Writing
 -- how sealed bytes are read
 pub mod Reading
+-- what stands in a frame
+pub mod Frames
 -- the number and the place of each fault
 pub mod Faults
 -- what check and seal answer

@@ -1,44 +1,56 @@
 -- What the steps of the check answer, and with which counts a sealed book stands.
--- NodeChecked, NodesChecked, EntryChecked, EntriesChecked: one record, and all of them.
--- CountsAnswer: the whole check. Stands: the invariant of an opened book.
+-- NodeChecked, NodesGranted, NodeFirstRefused, EntryChecked, EntriesChecked: one record of a frame, and all of them.
+-- FrameChecked: the whole check. Stands: the invariant of an opened book.
 -- Assumes nothing.
-use Rattle.std.specs.Prelude.{◌≡◌, ℕ, ◌+◌, ◌*◌, Bool, true, ◌⊎◌, List, Ok, Err, Result, slice_index_or}
+use Rattle.std.specs.Prelude.{◌≡◌, ℕ, Bool, true, ◌⊎◌, List, Ok, Err, Result, slice_index_or}
 use Rattle.logic.specs.declared.records.Node.{Node}
 use Rattle.logic.specs.Written.{node_of}
 use Rattle.logic.specs.Concepts.{of, read, concepts, plain}
-use Rattle.sealed.specs.declared.counts.Counts.{Counts}
+use Rattle.sealed.specs.declared.frame.Frame.{Frame}
 use Rattle.sealed.specs.declared.faults.CheckFault.{CheckFault}
 use Rattle.sealed.specs.Faults.{check_fault_number, check_fault_place}
-use Rattle.sealed.specs.Reading.{raw_node_at, nodes_in, node_refusal_in, entry_refusal_in}
+use Rattle.sealed.specs.Reading.{raw_node_at, node_start, entry_start, node_refusal_in, entry_refusal_in}
+use Rattle.sealed.specs.Frames.{node_place, entry_place, first_nodes}
 use Rattle.sealed.specs.Checks.{Granted, Passes, FirstRefused, Bad}
 
 -- what of each node is known to be plain; past the end it is
 abbrev pub Marks : List Bool → List Node → Type 0
 Marks marks ns = (k : ℕ) → slice_index_or marks k true ≡ plain (of (concepts ns) k)
 
--- node i from an offset on is granted, and its mark is answered, or it is refused
-abbrev pub NodeChecked : List ℕ → ℕ → ℕ → Result Bool CheckFault → Type 0
-NodeChecked bs from i (Ok mark) = (node_refusal_in bs from i ≡ 0) × (mark ≡ plain (read (concepts (nodes_in bs from i)) (node_of (raw_node_at bs (from + 5 * i)))))
-NodeChecked bs from i (Err f) = (node_refusal_in bs from i ≡ check_fault_number f) × (check_fault_place f ≡ from + 5 * i)
+-- why node i is refused when it is offered to the book of the nodes before it; 0 where it is granted
+abbrev pub node_refused : Frame → ℕ → ℕ
+node_refused f i = node_refusal_in f.bytes.now (node_start f.bytes.now f.counts.nodes f.counts.entries) i
 
--- n nodes from an offset on are granted, and these are their marks, or one is the first that is refused
-abbrev pub NodesChecked : List ℕ → ℕ → ℕ → List Bool → Result (Unit {0}) CheckFault → Type 0
-NodesChecked bs from n marks (Ok u) = Granted (node_refusal_in bs from) n × Marks marks (nodes_in bs from n)
-NodesChecked bs from n marks (Err f) = FirstRefused (node_refusal_in bs from) n from 5 f
+-- why entry j is refused when it is offered to the book of all nodes and the entries before it
+abbrev pub entry_refused : Frame → ℕ → ℕ
+entry_refused f j = entry_refusal_in f.bytes.now (first_nodes f f.counts.nodes) (entry_start f.bytes.now f.counts.entries) j
 
--- the same of an entry and of entries, over these nodes
-abbrev pub EntryChecked : List ℕ → List Node → ℕ → ℕ → Result (Unit {0}) CheckFault → Type 0
-EntryChecked bs ns from j (Ok u) = entry_refusal_in bs ns from j ≡ 0
-EntryChecked bs ns from j (Err f) = (entry_refusal_in bs ns from j ≡ check_fault_number f) × (check_fault_place f ≡ from + 7 * j)
+-- node i is granted, and its mark is answered, or it is refused
+abbrev pub NodeChecked : Frame → ℕ → Result Bool CheckFault → Type 0
+NodeChecked f i (Ok mark) = (node_refused f i ≡ 0) × (mark ≡ plain (read (concepts (first_nodes f i)) (node_of (raw_node_at f.bytes.now (node_place f i)))))
+NodeChecked f i (Err fault) = (node_refused f i ≡ check_fault_number fault) × (check_fault_place fault ≡ node_place f i)
 
-abbrev pub EntriesChecked : List ℕ → List Node → ℕ → ℕ → Result (Unit {0}) CheckFault → Type 0
-EntriesChecked bs ns from m (Ok u) = Granted (entry_refusal_in bs ns from) m
-EntriesChecked bs ns from m (Err f) = FirstRefused (entry_refusal_in bs ns from) m from 7 f
+-- entry j is granted, or it is refused
+abbrev pub EntryChecked : Frame → ℕ → Result (Unit {0}) CheckFault → Type 0
+EntryChecked f j (Ok u) = entry_refused f j ≡ 0
+EntryChecked f j (Err fault) = (entry_refused f j ≡ check_fault_number fault) × (check_fault_place fault ≡ entry_place f j)
 
--- the counts of bytes that pass, or the first thing wrong with them
-abbrev pub CountsAnswer : List ℕ → Result Counts CheckFault → Type 0
-CountsAnswer bs (Ok c) = Passes bs c.nodes c.entries
-CountsAnswer bs (Err f) = Bad bs f
+-- all nodes are granted, or one is the first that is refused
+abbrev pub NodesGranted : Frame → Type 0
+NodesGranted f = Granted (node_refused f) f.counts.nodes
+
+abbrev pub NodeFirstRefused : Frame → CheckFault → Type 0
+NodeFirstRefused f = FirstRefused (node_refused f) f.counts.nodes (node_start f.bytes.now f.counts.nodes f.counts.entries) 5
+
+-- all entries are granted, or one is the first that is refused
+abbrev pub EntriesChecked : Frame → Result (Unit {0}) CheckFault → Type 0
+EntriesChecked f (Ok u) = Granted (entry_refused f) f.counts.entries
+EntriesChecked f (Err fault) = FirstRefused (entry_refused f) f.counts.entries (entry_start f.bytes.now f.counts.entries) 7 fault
+
+-- the frame of bytes that pass, or the first thing wrong with them
+abbrev pub FrameChecked : List ℕ → Result Frame CheckFault → Type 0
+FrameChecked bs (Ok f) = (f.bytes.now ≡ bs) × Passes f.bytes.now f.counts.nodes f.counts.entries
+FrameChecked bs (Err fault) = Bad bs fault
 
 -- check passes with these counts, or both are 0
 abbrev pub Stands : List ℕ → ℕ → ℕ → Type 0

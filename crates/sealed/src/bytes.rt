@@ -1,28 +1,21 @@
 // Numbers and records at an offset of the bytes, low byte first.
-ghost use Rattle.std.specs.Prelude.{◌≡◌, ◌+◌, ◌-◌, ◌<◌, ◌≤◌, ltb, length, if◌then◌else◌, nat_lt};
-ghost use Rattle.sealed.specs.Reading.{byte_at, u16_at, u32_at, raw_node_at, raw_entry_at};
+ghost use Rattle.std.specs.Prelude.{◌≡◌, ◌+◌, ◌-◌, ◌<◌, ◌≤◌, ltb, length, if◌then◌else◌};
+ghost use Rattle.sealed.specs.Reading.{u16_at, u32_at, raw_node_at, raw_entry_at, line_at_offset};
 
-use logic::records::{RawEntry, RawNode};
-
-pub(crate) fn u8_at(bytes: &[u8], i: usize) -> u8
-    requires { i < length bytes.now }
-    ensures { result ≡ byte_at bytes.now i }
-{
-    bytes[i]
-}
+use logic::records::{Entry, Line, RawEntry, RawNode};
 
 pub(crate) fn u16_at(bytes: &[u8], i: usize) -> u16
     requires { i + 1 < length bytes.now }
     ensures { result ≡ u16_at bytes.now i }
 {
-    bytes[i] as u16 + 256 * bytes[i + 1] as u16
+    u16::from_le_bytes([bytes[i], bytes[i + 1]])
 }
 
 pub(crate) fn u32_at(bytes: &[u8], i: usize) -> u32
     requires { i + 3 < length bytes.now }
     ensures { result ≡ u32_at bytes.now i }
 {
-    u16_at(bytes, i) as u32 + 65536 * u16_at(bytes, i + 2) as u32
+    u32::from_le_bytes([bytes[i], bytes[i + 1], bytes[i + 2], bytes[i + 3]])
 }
 
 // The node that is written at an offset.
@@ -31,7 +24,7 @@ pub(crate) fn raw_node_at(bytes: &[u8], i: usize) -> RawNode
     ensures { result ≡ raw_node_at bytes.now i }
 {
     RawNode {
-        kind: u8_at(bytes, i),
+        kind: bytes[i],
         a: u16_at(bytes, i + 1),
         b: u16_at(bytes, i + 3),
     }
@@ -43,7 +36,7 @@ pub(crate) fn raw_entry_at(bytes: &[u8], i: usize) -> RawEntry
     ensures { result ≡ raw_entry_at bytes.now i }
 {
     RawEntry {
-        kind: entry_kind(u8_at(bytes, i)),
+        kind: entry_kind(bytes[i]),
         a: u16_at(bytes, i + 1),
         b: u16_at(bytes, i + 3),
         c: u16_at(bytes, i + 5),
@@ -57,10 +50,13 @@ fn entry_kind(byte: u8) -> u8
     if byte < 16 { byte } else { byte - 16 }
 }
 
-// Whether the entry that is written at an offset is live.
-pub(crate) fn live_at(bytes: &[u8], i: usize) -> bool
-    requires { i < length bytes.now }
-    ensures { result ≡ nat_lt (byte_at bytes.now i) 16 }
+// The entry that is written at an offset, with its live mark.
+pub(crate) fn line_at(bytes: &[u8], i: usize) -> Line
+    requires { i + 7 ≤ length bytes.now }
+    ensures { result ≡ line_at_offset bytes.now i }
 {
-    bytes[i] < 16
+    Line {
+        entry: Entry::from(raw_entry_at(bytes, i)),
+        live: bytes[i] < 16,
+    }
 }

@@ -1,26 +1,18 @@
-// How many records a sealed book has, and where they begin.
-ghost use Rattle.std.specs.Prelude.{◌≡◌, ◌+◌, ◌≤◌, length};
+// How many records a sealed book has.
+ghost use Rattle.std.specs.Prelude.{◌≡◌};
 ghost use Rattle.sealed.specs.Writing.{records_length};
-ghost use Rattle.sealed.specs.Reading.{node_start, entry_start};
 
-#[derive(Clone, Copy)]
+#[derive(Clone, Copy, Default)]
 pub(crate) struct Counts {
     pub nodes: u16,
     pub entries: u16,
 }
 
-// Where the first node begins.
-pub(crate) fn node_start(bytes: &[u8], counts: Counts) -> usize
-    requires { records_length counts.nodes counts.entries + 8 ≤ length bytes.now }
-    ensures { result ≡ node_start bytes.now counts.nodes counts.entries }
-{
-    entry_start(bytes, counts) - 5 * counts.nodes as usize
-}
-
-// Where the first entry begins.
-pub(crate) fn entry_start(bytes: &[u8], counts: Counts) -> usize
-    requires { records_length counts.nodes counts.entries + 8 ≤ length bytes.now }
-    ensures { result ≡ entry_start bytes.now counts.entries }
-{
-    bytes.len() - 8 - 7 * counts.entries as usize
+impl Counts {
+    // How many bytes the records have.
+    pub(crate) fn records_length(self) -> u32
+        ensures { result ≡ records_length self.nodes self.entries }
+    {
+        5 * self.nodes as u32 + 7 * self.entries as u32
+    }
 }

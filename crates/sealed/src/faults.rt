@@ -1,23 +1,19 @@
 // Why bytes are no sealed book, and why a book is not sealed.
-ghost use Rattle.sealed.specs.Faults.{check_fault_number, check_fault_place, seal_fault_number, seal_fault_place};
+ghost use Rattle.sealed.specs.Faults.{check_fault_number, check_fault_place};
 
-use logic::refusal::Refusal;
+use books::faults::Unfit;
+use logic::refusal::{BadLength, Refusal};
 
-// Each case holds its place: the length of the bytes, or the first byte of the first bad record.
 #[derive(Clone, Copy)]
 pub enum CheckFault {
+    // with the length of the bytes
     BadFrame(usize),
-    UnknownKind(usize),
-    OutOfRange(usize),
-    NoSuchNode(usize),
-    TypicalMisplaced(usize),
+    // with the first byte of the first bad record
+    BadRecord(Unfit, usize),
 }
 
-// The length of the buffer.
-#[derive(Clone, Copy)]
-pub enum SealFault {
-    TooShort(usize),
-}
+// The buffer is too short.
+pub type SealFault = BadLength<20>;
 
 impl Refusal for CheckFault {
     ghost numbered = { check_fault_number };
@@ -25,40 +21,16 @@ impl Refusal for CheckFault {
     ghost placed = { check_fault_place };
 
     fn number(&self) -> u8 {
-        match self {
+        match *self {
             CheckFault::BadFrame(_) => 19,
-            CheckFault::UnknownKind(_) => 2,
-            CheckFault::OutOfRange(_) => 3,
-            CheckFault::NoSuchNode(_) => 4,
-            CheckFault::TypicalMisplaced(_) => 5,
+            CheckFault::BadRecord(unfit, _) => u8::from(unfit),
         }
     }
 
     fn place(&self) -> usize {
         match *self {
-            CheckFault::BadFrame(at)
-            | CheckFault::UnknownKind(at)
-            | CheckFault::OutOfRange(at)
-            | CheckFault::NoSuchNode(at)
-            | CheckFault::TypicalMisplaced(at) => at,
-        }
-    }
-}
-
-impl Refusal for SealFault {
-    ghost numbered = { seal_fault_number };
-
-    ghost placed = { seal_fault_place };
-
-    fn number(&self) -> u8 {
-        match self {
-            SealFault::TooShort(_) => 20,
-        }
-    }
-
-    fn place(&self) -> usize {
-        match *self {
-            SealFault::TooShort(length) => length,
+            CheckFault::BadFrame(length) => length,
+            CheckFault::BadRecord(_, at) => at,
         }
     }
 }

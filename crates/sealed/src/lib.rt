@@ -5,5 +5,6 @@ mod bytes;
 pub mod check;
 mod counts;
 pub mod faults;
+mod frame;
 pub mod seal;
 pub mod sealed_book;

@@ -1,9 +1,7 @@
 // Damaged bytes: every field in turn.
-use books::book::{EditableBook, ReadableBook};
-use books::sample;
-use books::slot_table::SlotTable;
-use books::write::{write_entries, write_nodes};
-use logic::refusal::Refusal;
+use crate::filled::sample_table;
+use books::book::ReadableBook;
+use logic::refusal::told;
 use sealed::check::check as check_bytes;
 use sealed::seal::seal;
 use sealed::sealed_book::SealedBook;
@@ -12,71 +10,66 @@ use std::test::Fail;
 
 // The sample book behind a note of two bytes: nodes from 2, entries from 37, the trailer from 58.
 fn sample_bytes(rt: &(impl Abort + AllocGlobal)) -> Result<[u8; 66], Fail> {
-    let mut book: SlotTable = EditableBook::new(rt.alloc())?;
-    assert!(rt; write_nodes(&mut book, &sample::NODES).is_ok());
-    assert!(rt; write_entries(&mut book, &sample::ENTRIES).is_ok());
+    let book = sample_table(rt)?;
     let mut out = [0; 66];
     assert!(rt; seal(&book, &mut out[2..]).is_ok());
     Ok(out)
 }
 
-// What check answers, as number and place; 0 and 0 where it passes.
-fn checked(bytes: &[u8]) -> (u8, usize) {
-    match check_bytes(bytes) {
-        Ok(()) => (0, 0),
-        Err(fault) => (fault.number(), fault.place()),
-    }
+// What check says of bytes that it refuses, as number and place.
+fn refused(bytes: &[u8]) -> Option<(u8, usize)> {
+    check_bytes(bytes).err().map(|fault| told(&fault))
 }
 
-// A byte to damage, what is written there, and what check answers then.
-const DAMAGE: [(usize, u8, u8, usize); 24] = [
+// A byte to damage, what is written there, and what check says then.
+const DAMAGE: [(usize, u8, Option<(u8, usize)>); 24] = [
     // the note is free
-    (0, 255, 0, 0),
+    (0, 255, None),
     // kinds of nodes
-    (2, 9, 2, 2),
-    (17, 255, 2, 17),
+    (2, 9, Some((2, 2))),
+    (17, 255, Some((2, 17))),
     // a name over 63, an unused operand
-    (3, 64, 3, 2),
-    (4, 1, 3, 2),
-    (5, 1, 3, 2),
-    (21, 1, 3, 17),
+    (3, 64, Some((3, 2))),
+    (4, 1, Some((3, 2))),
+    (5, 1, Some((3, 2))),
+    (21, 1, Some((3, 17))),
     // an operand that is not there
-    (23, 4, 4, 22),
-    (26, 2, 4, 22),
-    (18, 3, 4, 17),
+    (23, 4, Some((4, 22))),
+    (26, 2, Some((4, 22))),
+    (18, 3, Some((4, 17))),
     // T below T
-    (28, 3, 5, 27),
+    (28, 3, Some((5, 27))),
     // kinds of entries, live and struck
-    (37, 0, 2, 37),
-    (37, 4, 2, 37),
-    (37, 16, 2, 37),
-    (37, 33, 2, 37),
-    (37, 17, 0, 0),
+    (37, 0, Some((2, 37))),
+    (37, 4, Some((2, 37))),
+    (37, 16, Some((2, 37))),
+    (37, 33, Some((2, 37))),
+    (37, 17, None),
     // an unused operand, an individual over 31
-    (42, 1, 3, 37),
-    (52, 32, 3, 51),
+    (42, 1, Some((3, 37))),
+    (52, 32, Some((3, 51))),
     // a node that is not there
-    (38, 7, 4, 37),
+    (38, 7, Some((4, 37))),
     // T on the right
-    (40, 3, 5, 37),
+    (40, 3, Some((5, 37))),
     // counts and distance
-    (58, 6, 19, 66),
-    (59, 3, 19, 66),
-    (60, 4, 19, 66),
-    (62, 55, 19, 66),
+    (58, 6, Some((19, 66))),
+    (59, 3, Some((19, 66))),
+    (60, 4, Some((19, 66))),
+    (62, 55, Some((19, 66))),
 ];
 
 #[test]
 fn every_field_damaged_in_turn(rt: HostRuntime) -> Result<(), Fail> {
     let bytes = sample_bytes(&rt)?;
-    assert_eq!(rt; checked(&bytes), (0, 0));
-    for (at, value, number, place) in &DAMAGE {
+    assert_eq!(rt; refused(&bytes), None);
+    for (at, value, answer) in &DAMAGE {
         let mut damaged = bytes;
         assert!(rt; *at < 66);
         damaged[*at] = *value;
-        assert_eq!(rt; checked(&damaged), (*number, *place), "damaged");
+        assert_eq!(rt; refused(&damaged), *answer, "damaged");
         let book = SealedBook::open(&damaged);
-        let nodes = if *number == 0 { 7 } else { 0 };
+        let nodes = if answer.is_none() { 7 } else { 0 };
         assert_eq!(rt; book.node_count(), nodes);
     }
     Ok(())
@@ -84,12 +77,12 @@ fn every_field_damaged_in_turn(rt: HostRuntime) -> Result<(), Fail> {
 
 #[test]
 fn short_bytes_are_refused(rt: HostRuntime) {
-    assert_eq!(rt; checked(&[]), (19, 0));
-    assert_eq!(rt; checked(&[0; 7]), (19, 7));
-    assert_eq!(rt; checked(&[0; 8]), (0, 0));
-    assert_eq!(rt; checked(&[1, 0, 0, 0, 5, 0, 0, 0]), (19, 8));
-    assert_eq!(rt; checked(&[0, 0, 0, 0, 0, 0, 1, 0]), (19, 8));
-    assert_eq!(rt; checked(&[0, 1, 0, 0, 0, 0, 0, 0, 0]), (19, 9));
+    assert_eq!(rt; refused(&[]), Some((19, 0)));
+    assert_eq!(rt; refused(&[0; 7]), Some((19, 7)));
+    assert_eq!(rt; refused(&[0; 8]), None);
+    assert_eq!(rt; refused(&[1, 0, 0, 0, 5, 0, 0, 0]), Some((19, 8)));
+    assert_eq!(rt; refused(&[0, 0, 0, 0, 0, 0, 1, 0]), Some((19, 8)));
+    assert_eq!(rt; refused(&[0, 1, 0, 0, 0, 0, 0, 0, 0]), Some((19, 9)));
 }
 
 #[test]
@@ -99,11 +92,11 @@ fn counts_over_the_limits_are_refused(rt: HostRuntime) {
     nodes[2566] = 2;
     nodes[2569] = 5;
     nodes[2570] = 10;
-    assert_eq!(rt; checked(&nodes), (19, 2573));
+    assert_eq!(rt; refused(&nodes), Some((19, 2573)));
     let mut entries = [0; 1807];
     entries[1801] = 1;
     entries[1802] = 1;
     entries[1803] = 7;
     entries[1804] = 7;
-    assert_eq!(rt; checked(&entries), (19, 1807));
+    assert_eq!(rt; refused(&entries), Some((19, 1807)));
 }

@@ -4,4 +4,6 @@
 #[cfg(test)]
 mod damage;
 #[cfg(test)]
+mod filled;
+#[cfg(test)]
 mod round;

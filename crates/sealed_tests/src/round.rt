@@ -1,44 +1,29 @@
 // What is sealed passes and reads back, with a note or without.
+use crate::filled::sample_table;
 use books::book::{EditableBook, ReadableBook};
-use books::sample;
 use books::slot_table::SlotTable;
-use books::write::{write_entries, write_nodes};
 use logic::records::{RawEntry, RawNode};
 use logic::refusal::Refusal;
 use sealed::check::check as check_bytes;
-use sealed::faults::SealFault;
 use sealed::seal::seal;
 use sealed::sealed_book::SealedBook;
 use std::process::Abort;
 use std::test::Fail;
 
-// The length of a book, sealed into a buffer that is long enough.
-fn sealed_length<B: ReadableBook>(book: &B, out: &mut [u8]) -> Result<usize, Fail> {
-    match seal(book, out) {
-        Ok(length) => Ok(length),
-        Err(_) => Err(Fail::new("not sealed")),
-    }
-}
-
-fn same_nodes<A: ReadableBook, B: ReadableBook>(rt: &impl Abort, a: &A, b: &B) {
+fn same_book<A: ReadableBook, B: ReadableBook>(rt: &impl Abort, a: &A, b: &B) {
     assert_eq!(rt; a.node_count(), b.node_count());
     for i in 0..a.node_count() {
-        let x = a.node_at(i).raw();
-        let y = b.node_at(i).raw();
-        assert!(rt; x.kind == y.kind && x.a == y.a && x.b == y.b, "node");
+        assert!(rt;
+            RawNode::from(a.node_at(i)) == RawNode::from(b.node_at(i)),
+            "node"
+        );
     }
-}
-
-fn same_entries<A: ReadableBook, B: ReadableBook>(rt: &impl Abort, a: &A, b: &B) {
     assert_eq!(rt; a.entry_count(), b.entry_count());
     for i in 0..a.entry_count() {
-        let x = a.entry_at(i).entry.raw();
-        let y = b.entry_at(i).entry.raw();
-        assert!(rt;
-            x.kind == y.kind && x.a == y.a && x.b == y.b && x.c == y.c,
-            "entry"
-        );
-        assert_eq!(rt; a.entry_at(i).live, b.entry_at(i).live);
+        let x = a.entry_at(i);
+        let y = b.entry_at(i);
+        assert!(rt; RawEntry::from(x.entry) == RawEntry::from(y.entry), "entry");
+        assert_eq!(rt; x.live, y.live);
     }
 }
 
@@ -50,13 +35,13 @@ fn reads_back<B: ReadableBook>(
     note: usize,
 ) -> Result<usize, Fail> {
     assert!(rt; note <= out.len());
-    let length = sealed_length(book, &mut out[note..])?;
+    let sealed = seal(book, &mut out[note..]);
+    let length = sealed.map_err(|_| Fail::new("not sealed"))?;
     assert!(rt; note <= out.len() && length <= out.len() - note);
     let bytes = &out[0..note + length];
     assert!(rt; check_bytes(bytes).is_ok());
     let opened = SealedBook::open(bytes);
-    same_nodes(rt, book, &opened);
-    same_entries(rt, book, &opened);
+    same_book(rt, book, &opened);
     Ok(length)
 }
 
@@ -71,9 +56,7 @@ fn the_empty_book_has_8_bytes(rt: HostRuntime) -> Result<(), Fail> {
 
 #[test]
 fn the_sample_book_has_64_bytes(rt: HostRuntime) -> Result<(), Fail> {
-    let mut book: SlotTable = EditableBook::new(rt.alloc())?;
-    assert!(rt; write_nodes(&mut book, &sample::NODES).is_ok());
-    assert!(rt; write_entries(&mut book, &sample::ENTRIES).is_ok());
+    let mut book = sample_table(&rt)?;
     let mut out = [9; 70];
     assert_eq!(rt; reads_back(&rt, &book, &mut out, 0)?, 64);
     assert_eq!(rt; out[56], 7);
@@ -120,13 +103,11 @@ fn the_largest_book_has_4360_bytes(rt: HostRuntime) -> Result<(), Fail> {
 fn a_short_buffer_stays_as_it_was(rt: HostRuntime) -> Result<(), Fail> {
     let book: SlotTable = EditableBook::new(rt.alloc())?;
     let mut out = [5; 7];
-    match seal(&book, &mut out) {
-        Ok(_) => Err(Fail::new("sealed")),
-        Err(fault) => {
-            assert_eq!(rt; fault.number(), 20);
-            assert_eq!(rt; fault.place(), 7);
-            assert_eq!(rt; out, [5; 7]);
-            Ok(())
-        }
-    }
+    let Err(fault) = seal(&book, &mut out) else {
+        return Err(Fail::new("sealed"));
+    };
+    assert_eq!(rt; fault.number(), 20);
+    assert_eq!(rt; fault.place(), 7);
+    assert_eq!(rt; out, [5; 7]);
+    Ok(())
 }

@@ -1,14 +1,14 @@
 -- How decimals are read.
-use Rattle.std.proofs.Common.{◌≡◌, ℕ, zero, suc, ◌+◌, ◌-◌, ◌*◌, ◌^◌, ◌<◌, ◌⊎◌, List, [], ◌∷◌, map, length, get_or, codes, decimal as written, sym, refl, ap, ◌∙◌, inl, inr, arith, rules}
+use Rattle.std.proofs.Common.{◌≡◌, ℕ, zero, suc, ◌+◌, ◌-◌, ◌*◌, ◌^◌, ◌<◌, ◌⊎◌, List, [], ◌∷◌, map, length, get_or, codes, sym, refl, ap, ◌∙◌, inl, inr, arith, rules}
 use Rattle.std.specs.Int.Digits.{digits_of, number_from_digits_after}
 use Rattle.std.specs.List.{AllByRecursion}
-use Rattle.std.proofs.lemmas.Fmt.{decimal_digit, decimal-digits_of, decimal-digits_value}
+use Rattle.std.proofs.lemmas.Fmt.{decimal-digits_value}
 use Rattle.std.proofs.lemmas.Int.Digits.{all_below_base_digits_of, first_digits_of, number_digits_of}
 use Rattle.std.proofs.ByRecursion.{All-map, All-weaker}
 use Rattle.std.proofs.lemmas.Str.Parse.{IsNumeralModel, numerals_by_fold}
 use Rattle.verdict.specs.Laws.{Digit, read_on, ReadsAs, DecimalsRead}
 use Rattle.verdict.specs.Lines.{decimal}
-use Rattle.verdict.proofs.Decimals.{code}
+use Rattle.verdict.proofs.Decimals.{code, same}
 
 -- the codes of digits read as the number that the digits write
 read_codes : (n : ℕ) (ds : List ℕ) → read_on n (map code ds) ≡ number_from_digits_after 10 n ds
@@ -33,12 +33,6 @@ reads (suc n) =
       leading = inr (first_code ds (first_digits_of 10 (suc n) (omega arith) (omega arith)));
       value = read_codes 0 ds ∙ number_digits_of 10 (suc n) (omega arith);
     }
-
--- the standard library's decimal is the same
-same : (n : ℕ) → n < 2 ^ 64 → written n ≡ decimal n
-unfolding decimal
-same zero h = decimal_digit 0 (omega arith)
-same (suc n) h = decimal-digits_of (suc n) (omega arith) h
 
 -- these are words for digits and for what they write
 own : IsNumeralModel (AllByRecursion Digit) (read_on 0)

@@ -1,5 +1,3 @@
--- the number and the place of each fault
-pub mod Faults
 -- the line of a verdict
 pub mod Lines
 -- what line answers

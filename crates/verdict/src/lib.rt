@@ -1,7 +1,6 @@
 // Verdicts, and the line that is printed of each.
 #![tactic(auto)]
 
-pub mod faults;
 pub mod laws;
 pub mod line;
 
@@ -13,5 +12,5 @@ pub enum Verdict {
     // a model, with how many elements it has
     Satisfied(u32),
     // with the refusal's number and its place
-    Refused(u32, u32),
+    Refused { number: u32, place: u32 },
 }

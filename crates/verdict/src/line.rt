@@ -1,65 +1,68 @@
 // Writing a verdict as one line of text.
-ghost use Rattle.std.specs.Prelude.{◌+◌, ◌<◌, ◌≤◌, [], ◌∷◌, length};
+ghost use Rattle.std.specs.Prelude.{◌≡◌, ◌+◌, ◌≤◌, length};
 ghost use Rattle.verdict.specs.Lines.{decimal, text_of};
-ghost use Rattle.verdict.specs.Answers.{Put, LineAnswer};
+ghost use Rattle.verdict.specs.Answers.{Appends, LineAnswer};
 
 use crate::Verdict;
-use crate::faults::LineFault;
+use itoa::Buffer;
+use logic::refusal::BadLength;
+
+// The length of a buffer that is too short.
+pub type LineFault = BadLength<20>;
 
 // As long as the longest line, `refused 4294967295 at 4294967295` and a line feed.
 const LONGEST: usize = 33;
 
-// Writes a text at an offset and answers the offset behind it.
-fn put_text(out: &mut [u8], at: usize, text: &[u8]) -> usize
-    requires { at + length text.now ≤ length out.old }
-    ensures { Put text.now at out.old out.new result }
-{
-    let end = at + text.len();
-    out[at..end].copy_from_slice(text);
-    end
+// A lent buffer that is written from the front on.
+#[derive(Drop)]
+struct Cursor<'a> {
+    out: &'a mut [u8],
+    // how many bytes are written
+    at: usize,
 }
 
-// Writes one digit at an offset and answers the offset behind it.
-fn put_digit(out: &mut [u8], at: usize, digit: u32) -> usize
-    requires { (digit < 10) × (at < length out.old) }
-    ensures { Put ((48 + digit) ∷ []) at out.old out.new result }
-{
-    out[at] = b'0' + digit as u8;
-    at + 1
-}
-
-// Writes a number in decimal at an offset and answers the offset behind it.
-fn put_decimal(out: &mut [u8], at: usize, n: u32) -> usize
-    requires { at + length (decimal n) ≤ length out.old }
-    ensures { Put (decimal n) at out.old out.new result }
-{
-    if n < 10 {
-        return put_digit(out, at, n);
+// Numbers by `itoa`: std's `write!` says what it wrote on `Ok` alone, and no contract rules out its `Err`.
+impl Cursor<'_> {
+    fn text(&mut self, text: &[u8])
+        requires { self.old.at + length text.now ≤ length self.old.out.now }
+        ensures { Appends text.now self.old self.new }
+    {
+        let end = self.at + text.len();
+        self.out[self.at..end].copy_from_slice(text);
+        self.at = end;
     }
-    let end = put_decimal(out, at, n / 10);
-    put_digit(out, end, n % 10)
-}
 
-// Writes the line but for its line feed at the front, and answers the offset behind it.
-fn put_verdict(out: &mut [u8], verdict: Verdict) -> usize
-    requires { 33 ≤ length out.old }
-    ensures put { Put (text_of verdict) 0 out.old out.new result }
-    ensures room { result < 33 }
-{
-    match verdict {
-        Verdict::Closed(entries) => {
-            let at = put_text(out, 0, b"closed, entries used ");
-            put_decimal(out, at, entries)
-        }
-        Verdict::Satisfied(elements) => {
-            let at = put_text(out, 0, b"satisfied, elements ");
-            put_decimal(out, at, elements)
-        }
-        Verdict::Refused(number, place) => {
-            let at = put_text(out, 0, b"refused ");
-            let at = put_decimal(out, at, number);
-            let at = put_text(out, at, b" at ");
-            put_decimal(out, at, place)
+    // In decimal, at most ten digits.
+    #[tactic(auto, using(crate::proofs::Decimals::same))]
+    fn number(&mut self, n: u32)
+        requires { self.old.at + 10 ≤ length self.old.out.now }
+        ensures written { Appends (decimal n) self.old self.new }
+        ensures short { self.new.at ≤ self.old.at + 10 }
+    {
+        self.text(Buffer::new().format(n).as_bytes());
+    }
+
+    // The line but for its line feed.
+    fn verdict(&mut self, verdict: Verdict)
+        requires { self.old.at + 32 ≤ length self.old.out.now }
+        ensures written { Appends (text_of verdict) self.old self.new }
+        ensures short { self.new.at ≤ self.old.at + 32 }
+    {
+        match verdict {
+            Verdict::Closed(entries) => {
+                self.text(b"closed, entries used ");
+                self.number(entries);
+            }
+            Verdict::Satisfied(elements) => {
+                self.text(b"satisfied, elements ");
+                self.number(elements);
+            }
+            Verdict::Refused { number, place } => {
+                self.text(b"refused ");
+                self.number(number);
+                self.text(b" at ");
+                self.number(place);
+            }
         }
     }
 }
@@ -69,8 +72,10 @@ pub fn line(verdict: Verdict, out: &mut [u8]) -> Result<usize, LineFault>
     ensures { LineAnswer verdict out.old out.new result }
 {
     if out.len() < LONGEST {
-        return Err(LineFault::TooShort(out.len()));
+        return Err(BadLength(out.len()));
     }
-    let end = put_verdict(out, verdict);
-    Ok(put_text(out, end, b"\n"))
+    let mut line = Cursor { out, at: 0 };
+    line.verdict(verdict);
+    line.text(b"\n");
+    Ok(line.at)
 }

@@ -1,75 +1,69 @@
 // Lines in buffers that held `#` everywhere.
-use logic::refusal::Refusal;
+use logic::refusal::told;
 use verdict::Verdict;
 use verdict::line::line;
 
-#[derive(Clone, Copy, PartialEq, Eq, Debug)]
-enum Answer {
-    Written(usize),
-    Refused(u8, usize),
-}
-
-fn write(verdict: Verdict, out: &mut [u8]) -> Answer {
-    match line(verdict, out) {
-        Ok(length) => Answer::Written(length),
-        Err(fault) => Answer::Refused(fault.number(), fault.place()),
-    }
+// What line answers, a refusal as its number and place, and what it leaves of the buffer.
+fn written<const N: usize>(verdict: Verdict) -> (Result<usize, (u8, usize)>, [u8; N]) {
+    let mut out = [b'#'; N];
+    let answer = line(verdict, &mut out).map_err(|fault| told(&fault));
+    (answer, out)
 }
 
 #[test]
 fn three_kinds(rt: HostRuntime) {
-    let mut out = [b'#'; 34];
-    assert_eq!(rt; write(Verdict::Closed(4), &mut out), Answer::Written(23));
-    assert_eq!(rt; out, *b"closed, entries used 4\n###########");
-    out = [b'#'; 34];
-    assert_eq!(rt; write(Verdict::Satisfied(2), &mut out), Answer::Written(22));
-    assert_eq!(rt; out, *b"satisfied, elements 2\n############");
-    out = [b'#'; 34];
     assert_eq!(rt;
-        write(Verdict::Refused(13, 7), &mut out),
-        Answer::Written(16)
+        written(Verdict::Closed(4)),
+        (Ok(23), *b"closed, entries used 4\n###########")
     );
-    assert_eq!(rt; out, *b"refused 13 at 7\n##################");
+    assert_eq!(rt;
+        written(Verdict::Satisfied(2)),
+        (Ok(22), *b"satisfied, elements 2\n############")
+    );
+    assert_eq!(rt;
+        written(Verdict::Refused {
+            number: 13,
+            place: 7
+        }),
+        (Ok(16), *b"refused 13 at 7\n##################")
+    );
 }
 
 #[test]
 fn zero_and_largest(rt: HostRuntime) {
-    let mut out = [b'#'; 34];
     assert_eq!(rt;
-        write(Verdict::Refused(0, 0), &mut out),
-        Answer::Written(15)
+        written(Verdict::Refused {
+            number: 0,
+            place: 0
+        }),
+        (Ok(15), *b"refused 0 at 0\n###################")
     );
-    assert_eq!(rt; out, *b"refused 0 at 0\n###################");
-    out = [b'#'; 34];
     assert_eq!(rt;
-        write(Verdict::Satisfied(u32::MAX), &mut out),
-        Answer::Written(31)
+        written(Verdict::Satisfied(u32::MAX)),
+        (Ok(31), *b"satisfied, elements 4294967295\n###")
     );
-    assert_eq!(rt; out, *b"satisfied, elements 4294967295\n###");
-    out = [b'#'; 34];
     assert_eq!(rt;
-        write(Verdict::Refused(1_000_000_000, 10), &mut out),
-        Answer::Written(25)
+        written(Verdict::Refused {
+            number: 1_000_000_000,
+            place: 10
+        }),
+        (Ok(25), *b"refused 1000000000 at 10\n#########")
     );
-    assert_eq!(rt; out, *b"refused 1000000000 at 10\n#########");
-    out = [b'#'; 34];
     assert_eq!(rt;
-        write(Verdict::Refused(u32::MAX, u32::MAX), &mut out),
-        Answer::Written(33)
+        written(Verdict::Refused {
+            number: u32::MAX,
+            place: u32::MAX
+        }),
+        (Ok(33), *b"refused 4294967295 at 4294967295\n#")
     );
-    assert_eq!(rt; out, *b"refused 4294967295 at 4294967295\n#");
 }
 
 #[test]
 fn buffers(rt: HostRuntime) {
-    let mut short = [b'#'; 32];
+    assert_eq!(rt; written(Verdict::Closed(4)), (Err((20, 32)), [b'#'; 32]));
+    assert_eq!(rt; written(Verdict::Closed(4)), (Err((20, 0)), []));
     assert_eq!(rt;
-        write(Verdict::Closed(4), &mut short),
-        Answer::Refused(20, 32)
+        written(Verdict::Closed(4)),
+        (Ok(23), *b"closed, entries used 4\n##########")
     );
-    assert_eq!(rt; short, [b'#'; 32]);
-    assert_eq!(rt; write(Verdict::Closed(4), &mut []), Answer::Refused(20, 0));
-    let mut long = [b'#'; 33];
-    assert_eq!(rt; write(Verdict::Closed(4), &mut long), Answer::Written(23));
-    assert_eq!(rt; long, *b"closed, entries used 4\n##########");
 }

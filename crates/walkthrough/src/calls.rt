@@ -8,6 +8,7 @@ pub(crate) fn print_refusal<F: Refusal>(rt: &impl Print, fault: &F) -> io::Resul
     println!(rt; "refused {} at {}", fault.number(), fault.place())
 }
 
+// Each call prints what it granted in words of its own.
 pub(crate) fn node<B: EditableBook>(rt: &impl Print, book: &mut B, raw: RawNode) -> io::Result<()> {
     print!(rt; "  node, kind {} a {} b {}: ", raw.kind, raw.a, raw.b)?;
     match book.node(raw) {

@@ -10,7 +10,7 @@ use books::book::EditableBook;
 use books::journal::Journal;
 use books::sample;
 use books::slot_table::SlotTable;
-use logic::records::RawNode;
+use logic::records::Node;
 
 // The sample book is written, sealed and opened; then calls that do not fit are refused.
 fn write_a_book<B: EditableBook>(rt: &HostRuntime, book: &mut B) -> anyhow::Result<()> {
@@ -29,15 +29,7 @@ fn write_a_book<B: EditableBook>(rt: &HostRuntime, book: &mut B) -> anyhow::Resu
 // T of node 3, which is T(release) already; a strike, the same again, and one of no entry.
 fn refuse_calls<B: EditableBook>(rt: &HostRuntime, book: &mut B) -> anyhow::Result<()> {
     println!(rt; "T of T(release) is refused, and an entry is struck only once.")?;
-    calls::node(
-        rt,
-        book,
-        RawNode {
-            kind: 8,
-            a: 3,
-            b: 0,
-        },
-    )?;
+    calls::node(rt, book, Node::Typical(3).into())?;
     calls::strike(rt, book, 0)?;
     calls::strike(rt, book, 0)?;
     calls::strike(rt, book, 3)?;

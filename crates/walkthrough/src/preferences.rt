@@ -1,12 +1,13 @@
 // Orders that hand-ins bring: who is better than whom, and an order that is refused.
 use crate::calls;
+use orders::filled::{Encoding, Filled};
 use orders::masks::contains;
 use orders::order::Order;
 use orders::pairs::Pairs;
 use orders::ranks::Ranks;
 use std::io;
 
-// The elements of an order, and each pair of which one is better.
+// The elements of an order, and each pair of which one is better. An order is asked by number.
 fn print_order<O: Order>(rt: &impl Print, order: &O) -> io::Result<()> {
     println!(rt; "granted, elements {}", order.size())?;
     for x in 0..order.size() {
@@ -19,14 +20,7 @@ fn print_order<O: Order>(rt: &impl Print, order: &O) -> io::Result<()> {
     Ok(())
 }
 
-fn fill_pairs(rt: &impl Print, order: &mut Pairs, bytes: &[u8]) -> io::Result<()> {
-    match order.fill(bytes) {
-        Ok(()) => print_order(rt, order),
-        Err(fault) => calls::print_refusal(rt, &fault),
-    }
-}
-
-fn fill_ranks(rt: &impl Print, order: &mut Ranks, bytes: &[u8]) -> io::Result<()> {
+fn fill<E: Encoding>(rt: &impl Print, order: &mut Filled<E>, bytes: &[u8]) -> io::Result<()> {
     match order.fill(bytes) {
         Ok(()) => print_order(rt, order),
         Err(fault) => calls::print_refusal(rt, &fault),
@@ -36,12 +30,12 @@ fn fill_ranks(rt: &impl Print, order: &mut Ranks, bytes: &[u8]) -> io::Result<()
 pub(crate) fn fill_orders(rt: &impl Print) -> io::Result<()> {
     let mut pairs = Pairs::new();
     print!(rt; "  pairs 2, 0: ")?;
-    fill_pairs(rt, &mut pairs, &[2, 0, 0, 0, 0, 0, 0, 0])?;
+    fill(rt, &mut pairs, &[2, 0, 0, 0, 0, 0, 0, 0])?;
     print!(rt; "  pairs 2, 1: ")?;
-    fill_pairs(rt, &mut pairs, &[2, 0, 0, 0, 1, 0, 0, 0])?;
+    fill(rt, &mut pairs, &[2, 0, 0, 0, 1, 0, 0, 0])?;
     let mut ranks = Ranks::new();
     print!(rt; "  ranks 0, 0: ")?;
-    fill_ranks(rt, &mut ranks, &[0, 0])?;
+    fill(rt, &mut ranks, &[0, 0])?;
     print!(rt; "  no ranks: ")?;
-    fill_ranks(rt, &mut ranks, &[])
+    fill(rt, &mut ranks, &[])
 }

@@ -2,80 +2,91 @@
 use books::book::ReadableBook;
 use logic::records::{Entry, Line, Node};
 use std::alloc::{AllocError, Global};
+use std::fmt;
 
 // The names of the sample book.
 const NAMES: [&str; 3] = ["release", "yanked", "paired"];
 
-fn name(heap: Global, i: u16) -> Result<String, AllocError> {
-    match NAMES.get(i as usize) {
-        Some(text) => String::from_str(heap, text),
-        None => format!(in heap; "name {i}"),
-    }
-}
-
 // The text of node i, where `texts` has those of the nodes so far.
 fn text_of(texts: &[String], i: u16) -> &str {
-    match texts.get(i as usize) {
-        Some(text) => text.as_str(),
-        None => "?",
+    texts.get(i as usize).map_or("?", String::as_str)
+}
+
+// A node, by the texts of those before it.
+#[derive(Drop)]
+struct Concept<'a> {
+    node: Node,
+    texts: &'a [String],
+}
+
+impl fmt::Display for Concept<'_> {
+    fn fmt<W: fmt::Write>(&self, f: &mut fmt::Formatter<W>) -> fmt::Result {
+        let text = |c: u16| text_of(self.texts, c);
+        match self.node {
+            Node::Top => write!(f, "top"),
+            Node::Bottom => write!(f, "bottom"),
+            Node::Name(i) => match NAMES.get(i as usize) {
+                Some(name) => write!(f, "{name}"),
+                None => write!(f, "name {i}"),
+            },
+            Node::Not(c) => write!(f, "not {}", text(c)),
+            Node::And(c, d) => write!(f, "({} and {})", text(c), text(d)),
+            Node::Or(c, d) => write!(f, "({} or {})", text(c), text(d)),
+            Node::All(role, c) => write!(f, "all role {role} {}", text(c)),
+            Node::Exists(role, c) => write!(f, "some role {role} {}", text(c)),
+            // in one pair of parentheses
+            Node::Typical(c) if text(c).starts_with('(') => write!(f, "T{}", text(c)),
+            Node::Typical(c) => write!(f, "T({})", text(c)),
+            Node::Absent => write!(f, "absent"),
+        }
     }
 }
 
-// T of a text, in one pair of parentheses.
-fn typical(heap: Global, text: &str) -> Result<String, AllocError> {
-    match text.as_bytes() {
-        [b'(', ..] => format!(in heap; "T{text}"),
-        _ => format!(in heap; "T({text})"),
+// An entry, by the texts of the nodes.
+#[derive(Drop)]
+struct Rule<'a> {
+    entry: Entry,
+    texts: &'a [String],
+}
+
+impl fmt::Display for Rule<'_> {
+    fn fmt<W: fmt::Write>(&self, f: &mut fmt::Formatter<W>) -> fmt::Result {
+        let text = |c: u16| text_of(self.texts, c);
+        match self.entry {
+            Entry::Inclusion(c, d) => write!(f, "{} in {}", text(c), text(d)),
+            Entry::Fact(x, c) => write!(f, "individual {x} holds {}", text(c)),
+            Entry::RoleFact(r, x, y) => write!(f, "role {r} leads from individual {x} to {y}"),
+            Entry::Absent => write!(f, "absent"),
+        }
     }
 }
 
-fn concept(heap: Global, node: Node, texts: &[String]) -> Result<String, AllocError> {
-    match node {
-        Node::Top => String::from_str(heap, "top"),
-        Node::Bottom => String::from_str(heap, "bottom"),
-        Node::Name(i) => name(heap, i),
-        Node::Not(c) => format!(in heap; "not {}", text_of(texts, c)),
-        Node::And(c, d) => format!(in heap; "({} and {})", text_of(texts, c), text_of(texts, d)),
-        Node::Or(c, d) => format!(in heap; "({} or {})", text_of(texts, c), text_of(texts, d)),
-        Node::All(role, c) => format!(in heap; "all role {role} {}", text_of(texts, c)),
-        Node::Exists(role, c) => format!(in heap; "some role {role} {}", text_of(texts, c)),
-        Node::Typical(c) => typical(heap, text_of(texts, c)),
-        Node::Absent => String::from_str(heap, "absent"),
-    }
-}
-
-fn rule(heap: Global, entry: Entry, texts: &[String]) -> Result<String, AllocError> {
-    match entry {
-        Entry::Inclusion(c, d) => format!(in heap;
-            "{} in {}",
-            text_of(texts, c),
-            text_of(texts, d)
-        ),
-        Entry::Fact(x, c) => format!(in heap; "individual {x} holds {}", text_of(texts, c)),
-        Entry::RoleFact(r, x, y) => format!(in heap; "role {r} leads from individual {x} to {y}"),
-        Entry::Absent => String::from_str(heap, "absent"),
-    }
-}
-
-// The text of each node, bottom up.
+// The text of each node, bottom up. A book is asked by number, here and below.
 fn concepts<B: ReadableBook>(heap: Global, book: &B) -> Result<Vec<String>, AllocError> {
     let mut texts = Vec::new(heap);
     for i in 0..book.node_count() {
-        let text = concept(heap, book.node_at(i), texts.as_slice())?;
+        let node = book.node_at(i);
+        let text = Concept {
+            node,
+            texts: texts.as_slice(),
+        }
+        .to_string(heap)?;
         texts.push(text)?;
     }
     Ok(texts)
 }
 
 pub(crate) fn print<B: ReadableBook>(rt: &HostRuntime, book: &B) -> anyhow::Result<()> {
-    let heap = rt.alloc();
-    let texts = concepts(heap, book)?;
+    let texts = concepts(rt.alloc(), book)?;
     println!(rt; "The book has {} nodes and these rules.", book.node_count())?;
     for i in 0..book.entry_count() {
         let Line { entry, live } = book.entry_at(i);
-        let text = rule(heap, entry, texts.as_slice())?;
+        let rule = Rule {
+            entry,
+            texts: texts.as_slice(),
+        };
         let mark = if live { "" } else { " (struck)" };
-        println!(rt; "  rule {i}: {text}{mark}")?;
+        println!(rt; "  rule {i}: {rule}{mark}")?;
     }
     Ok(())
 }

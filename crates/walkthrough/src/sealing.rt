@@ -7,7 +7,7 @@ use std::io;
 
 // The last eight bytes, in hex.
 fn print_trailer(rt: &impl Print, bytes: &[u8]) -> io::Result<()> {
-    for byte in bytes.iter().skip(bytes.len().saturating_sub(8)) {
+    for byte in &bytes[bytes.len().saturating_sub(8)..] {
         print!(rt; " {byte:02x}")?;
     }
     println!(rt; "")
@@ -18,7 +18,7 @@ pub(crate) fn seal_and_open<B: ReadableBook>(rt: &HostRuntime, book: &B) -> anyh
     match seal(book, &mut out) {
         Ok(length) => {
             print!(rt; "  seal: {length} bytes, ending")?;
-            let bytes = out.get(0..length).unwrap_or(&[]);
+            let bytes = &out[..length];
             print_trailer(rt, bytes)?;
             println!(rt; "The bytes are opened.")?;
             rules::print(rt, &SealedBook::open(bytes))

@@ -1,12 +1,8 @@
-use Rattle.std.proofs.Common.{◌≤◌, length, refl, subst, arith}
+use Rattle.std.proofs.Common.{◌≤◌, length, subst, arith}
 use Rattle.models.specs.Held.{held}
 use Rattle.models.specs.Extensions.{SetOfNode}
 use Rattle.judge.proofs.ShowFill.{blank_zeros, filled_none, filled_more, filled_all}
 use Rattle.judge.proofs.fill.fill.Goals as goal
-
-pub returns-then-list-count : goal.returns-then-list-count
-returns-then-list-count g c =
-    (omega (arith, c.node_count-count.ensures, c.if-list-count.true), refl, refl, blank_zeros _ _ c.clear.ensures)
 
 pub loop-i-init : goal.loop-i-init
 loop-i-init g c = filled_none (g.B.ReadableBook.meaning c.args.book.now) (held c.args.view.now) (g.O.Order.meaning c.args.order.now) _ (blank_zeros _ _ c.clear.ensures)

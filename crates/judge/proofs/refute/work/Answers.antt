@@ -1,72 +1,120 @@
-use Rattle.std.proofs.Common.{◌≡◌, [], map, sym, ap, ◌∙◌, subst, arith}
+use Rattle.std.proofs.Common.{◌*◌, ◌<◌, Some, ◌∙◌, ap, drop, take, ◌≡◌, ◌/◌, [], length, map, Err, sym, subst, rules, arith}
 use Rattle.logic.specs.Branches.{start}
 use Rattle.judge.specs.Members.{marks_of}
 use Rattle.judge.specs.Progress.{begun, Finished, Underway}
-use Rattle.judge.specs.Steps.{first_steps}
-use Rattle.judge.specs.Blanks.{lengths}
-use Rattle.judge.specs.Shown.{second_of}
-use Rattle.judge.proofs.Decoding.{steps_length, steps-take}
-use Rattle.judge.proofs.Halting.{shown_start, lengths_same, ShownIn, goes_on, breaks_off}
+use Rattle.judge.specs.Steps.{first_steps, decoded}
+use Rattle.judge.specs.Blanks.{lengths_of}
+use Rattle.judge.specs.Shown.{second_of, Holds}
+use Rattle.judge.specs.declared.faults.RefuteFault.TheVariants.{AtStep}
+use Rattle.judge.specs.Reasons.{Halted}
+use Rattle.judge.specs.Taking.{Took}
+use Rattle.judge.proofs.Decoding.{steps_length, steps-take, chunk_step, chunk_room, chunk_rest, chunks_end}
+use Rattle.judge.proofs.Halting.{shown_start, same_lengths, same_again, is_sound, goes_on, mapped_ok, mapped_err, breaks_off}
 use Rattle.judge.proofs.Marks.{marks_next}
 use Rattle.judge.proofs.Standing.{Stands}
 use Rattle.judge.proofs.refute.work.Goals as goal
 
 pub loop-i-init : goal.loop-i-init
 loop-i-init g c =
-    (c.new-used.ensures, (start, [], begun, shown_start c.start.result _ _ _ c.start.ensures c.requires.constraints_blank c.requires.edges_blank c.requires.splits_blank))
-
-pub returns-in_default : goal.returns-in_default
-returns-in_default g c =
     let bs = c.args.bytes.now in
     let bk = g.B.ReadableBook.meaning c.args.book.now in
-    let ls = lengths c.args.constraints.now c.args.edges.now c.args.splits.now in
-    let l = c.loop-i in (
-      omega (arith, steps_length bs c.args.steps),
-      subst (Finished bk ls) (sym (steps-take bs l.i c.args.steps (omega arith)))
-          (subst (Stands bk ls (first_steps l.i bs) (ShownIn l.constraints l.edges l.splits)) c.in_default.is l.invariant.1),
+    let l = c.args.lists.now in
+    let none : c.into_iter-i-iterator.result.count ≡ 0 = search rules in
+    record {
+      size = search rules;
+      room = omega (arith, none);
+      rest = search rules;
+      marks = subst (λ n. c.new-used.result.marks ≡ marks_of (first_steps n bs)) (sym none) c.new-used.ensures.unmarked;
+      same = search rules;
+      stands = subst (λ n. Stands bk (lengths_of l) (first_steps n bs) (Holds l) (Some c.start.result)) (sym none) (start, [], begun, shown_start l c.start.result c.start.ensures c.requires);
+    }
+
+pub returns-in_default-clause-worked : goal.returns-in_default-clause-worked
+returns-in_default-clause-worked g c =
+    let bs = c.args.bytes.now in
+    let bk = g.B.ReadableBook.meaning c.args.book.now in
+    let ls = lengths_of c.args.lists.now in
+    let l = c.loop-i in
+    let n = l.i-iterator.count in
+    let came = c.in-Some.ensures.steps in
+    let five = came.0.1.1 ∙ l.invariant.size in
+    let chunk = sym l.invariant.rest ∙ came.0.1.0 in
+    let room = chunk_room bs n c.in-Some.chunk.now c.next.new.self.iter.rest.now five chunk in
+    subst (λ i. (i < length (decoded bs)) × Finished bk ls (take i (decoded bs))) (sym came.1) (
+      omega (arith, steps_length bs (length bs / 5), room),
+      subst (Finished bk ls) (sym (steps-take bs n (length bs / 5) (omega (arith, room))))
+          (subst (Stands bk ls (first_steps n bs) (Holds l.lists)) c.in_default.is l.invariant.stands),
     )
 
-pub returns-in-Err : goal.returns-in-Err
-returns-in-Err g c =
+pub take-requires : goal.take-requires
+take-requires g c =
     let bs = c.args.bytes.now in
     let bk = g.B.ReadableBook.meaning c.args.book.now in
-    let ls = lengths c.args.constraints.now c.args.edges.now c.args.splits.now in
+    let ls = lengths_of c.args.lists.now in
     let l = c.loop-i in
-    let last = c.take.new in
-    let same = lengths_same l.constraints c.args.constraints.now l.edges c.args.edges.now l.splits c.args.splits.now l.auto.constraints l.auto.edges l.auto.splits in
-    breaks_off bk ls bs l.i c.step_at-step.result c.step_at-step.ensures l.open c.in-Some.at c.in-Some.is l.constraints l.edges l.splits same l.invariant.1
-    c.args.steps c.in-Err.fault c.at.result (ShownIn last.constraints last.edges last.splits) (omega arith) c.at.ensures c.in-Err.ensures
+    let n = l.i-iterator.count in
+    let came = c.in-Some.ensures.steps in
+    let five = came.0.1.1 ∙ l.invariant.size in
+    let chunk = sym l.invariant.rest ∙ came.0.1.0 in
+    let is = c.step_of-step.ensures ∙ chunk_step bs n c.in-Some.chunk.now c.next.new.self.iter.rest.now five chunk in
+    is_sound bk ls bs n c.step_of-step.result is l.open c.in-Some-open.at c.in-Some-open.is l.lists (same_lengths c.args.lists.now l.lists l.invariant.same) l.invariant.stands
+
+pub returns-in_err-taken-clause-worked : goal.returns-in_err-taken-clause-worked
+returns-in_err-taken-clause-worked g c =
+    let bs = c.args.bytes.now in
+    let bk = g.B.ReadableBook.meaning c.args.book.now in
+    let ls = lengths_of c.args.lists.now in
+    let l = c.loop-i in
+    let n = l.i-iterator.count in
+    let came = c.in-Some.ensures.steps in
+    let five = came.0.1.1 ∙ l.invariant.size in
+    let chunk = sym l.invariant.rest ∙ came.0.1.0 in
+    let room = chunk_room bs n c.in-Some.chunk.now c.next.new.self.iter.rest.now five chunk in
+    let is = c.step_of-step.ensures ∙ chunk_step bs n c.in-Some.chunk.now c.next.new.self.iter.rest.now five chunk in
+    let refused = mapped_err c.take.result c.map_err.result c.in_err-taken.field-0.0 _ c.map_err.ensures.cases c.in_err-taken.was in
+    let f = refused.0 in
+    let fault : c.from_residual.result ≡ Err (AtStep c.in-Some.i f) = search rules in
+    rw fault
+    (subst (λ i. Halted bk ls (decoded bs) (AtStep i f)) (sym came.1)
+    (breaks_off bk ls bs n c.step_of-step.result is l.open c.in-Some-open.at c.in-Some-open.is l.lists (same_lengths c.args.lists.now l.lists l.invariant.same) l.invariant.stands
+    (length bs / 5) f (Holds c.take.new.lists) (omega (arith, room))
+    (λ σ h. subst (Took bk (lengths_of l.lists) (Holds c.take.new.lists) σ.branch σ.pending c.step_of-step.result) refused.1 (c.take.ensures.took σ h))))
 
 pub loop-i-preserved : goal.loop-i-preserved
 loop-i-preserved g c =
     let bs = c.args.bytes.now in
     let bk = g.B.ReadableBook.meaning c.args.book.now in
-    let ls = lengths c.args.constraints.now c.args.edges.now c.args.splits.now in
+    let ls = lengths_of c.args.lists.now in
     let l = c.loop-i in
-    let last = c.take.new in
-    let same = lengths_same l.constraints c.args.constraints.now l.edges c.args.edges.now l.splits c.args.splits.now l.auto.constraints l.auto.edges l.auto.splits in
-    let then_same = lengths_same last.constraints l.constraints last.edges l.edges last.splits l.splits c.take.auto.constraints c.take.auto.edges c.take.auto.splits ∙ same in (
-      marks_next bs l.i c.step_at-step.result l.used.marks c.note.new.self.marks c.step_at-step.ensures l.invariant.0 c.note.ensures,
-      goes_on bk ls bs l.i c.step_at-step.result c.step_at-step.ensures l.open c.in-Some.at c.in-Some.is l.constraints l.edges l.splits same l.invariant.1
-          last.constraints last.edges last.splits c.in-Ok.taken then_same c.in-Ok.ensures,
-    )
+    let n = l.i-iterator.count in
+    let came = c.in-Some.ensures.steps in
+    let five = came.0.1.1 ∙ l.invariant.size in
+    let chunk = sym l.invariant.rest ∙ came.0.1.0 in
+    let rest = c.next.new.self.iter.rest.now in
+    let next = came.2 in
+    let room = chunk_room bs n c.in-Some.chunk.now rest five chunk in
+    let is = c.step_of-step.ensures ∙ chunk_step bs n c.in-Some.chunk.now rest five chunk in
+    let m = c.take.new.lists in
+    let same = same_again c.args.lists.now l.lists m l.invariant.same c.take.ensures.same in
+    let taken = mapped_ok c.take.result c.map_err.result c.in_ok-taken.taken _ c.map_err.ensures.cases c.in_ok-taken.was in
+    record {
+      size = came.0.0 ∙ l.invariant.size;
+      room = omega (arith, room, next);
+      rest = chunk_rest bs n c.in-Some.chunk.now rest five chunk ∙ ap (λ k. drop (5 * k) bs) (sym next);
+      marks = subst (λ k. c.note.new.self.marks ≡ marks_of (first_steps k bs)) (sym next) (marks_next bs n c.step_of-step.result l.used.marks c.note.new.self.marks is l.invariant.marks c.note.ensures);
+      same = same;
+      stands = subst (λ k. Stands bk ls (first_steps k bs) (Holds m) c.in_ok-taken.taken.at) (sym next)
+          (goes_on bk ls bs n c.step_of-step.result is l.open c.in-Some-open.at c.in-Some-open.is l.lists (same_lengths c.args.lists.now l.lists l.invariant.same) l.invariant.stands
+          m c.in_ok-taken.taken (same_lengths c.args.lists.now m same)
+          (λ σ h. subst (Took bk (lengths_of l.lists) (Holds m) σ.branch σ.pending c.step_of-step.result) taken (c.take.ensures.took σ h)));
+    }
 
-pub returns-in-Some-open : goal.returns-in-Some-open
-returns-in-Some-open g c =
+pub returns-in-Some-open-2-clause-worked : goal.returns-in-Some-open-2-clause-worked
+returns-in-Some-open-2-clause-worked g c =
     let bs = c.args.bytes.now in
     let bk = g.B.ReadableBook.meaning c.args.book.now in
-    let ls = lengths c.args.constraints.now c.args.edges.now c.args.splits.now in
     let l = c.loop-i in
-    let all : l.i ≡ c.args.steps = omega arith in
-    let found = subst (Stands bk ls (first_steps l.i bs) (ShownIn l.constraints l.edges l.splits)) c.in-Some-open.is l.invariant.1 in
-    (sym (steps_length bs c.args.steps), (found.0, map second_of found.1, subst (λ n. Underway bk ls (first_steps n bs) found.0 (map second_of found.1)) all found.2))
-
-pub returns-in-None : goal.returns-in-None
-returns-in-None g c =
-    let bs = c.args.bytes.now in
-    let bk = g.B.ReadableBook.meaning c.args.book.now in
-    let ls = lengths c.args.constraints.now c.args.edges.now c.args.splits.now in
-    let l = c.loop-i in
-    let all : l.i ≡ c.args.steps = omega arith in
-    let found = subst (Stands bk ls (first_steps l.i bs) (ShownIn l.constraints l.edges l.splits)) c.in-None.is l.invariant.1 in
-    (subst (λ n. Finished bk ls (first_steps n bs)) all found, l.invariant.0 ∙ ap (λ n. marks_of (first_steps n bs)) all)
+    let n = l.i-iterator.count in
+    let all : n ≡ length bs / 5 = chunks_end bs n l.i-iterator.iter.rest.now l.invariant.rest l.invariant.room (omega (arith, c.in-None.ensures.steps.0.1.0, l.invariant.size)) in
+    let found = subst (Stands bk (lengths_of c.args.lists.now) (first_steps n bs) (Holds l.lists)) c.in-Some-open-2.is l.invariant.stands in
+    (sym (steps_length bs (length bs / 5)), (found.0, map second_of found.1, subst (λ k. Underway bk (lengths_of c.args.lists.now) (first_steps k bs) found.0 (map second_of found.1)) all found.2))

@@ -1,5 +1,6 @@
 use Rattle.std.proofs.Common.{◌/◌, ◌^◌, ◌<◌, eqb, sym, ap, ◌∙◌, arith}
 use Rattle.std.proofs.lemmas.Nat.{and_mask}
+use Rattle.std.proofs.lemmas.Bool.{le-ltb}
 use Rattle.orders.proofs.MaskBits.{has_shift, below_within, never}
 use Rattle.orders.proofs.masks.contains.Goals as goal
 
@@ -10,4 +11,4 @@ returns-then-x-lt32 c =
 pub returns-else-x-lt32 : goal.returns-else-x-lt32
 returns-else-x-lt32 c =
     let small : c.args.set < 2 ^ 32 = omega arith in
-    sym (never _ (λ t. omega (arith, below_within 32 c.args.set small c.args.x t)))
+    le-ltb c.args.x 32 (omega arith) ∙ sym (never _ (λ t. omega (arith, below_within 32 c.args.set small c.args.x t)))

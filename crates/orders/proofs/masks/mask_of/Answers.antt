@@ -1,23 +1,12 @@
-use Rattle.std.proofs.Common.{◌+◌, ◌-◌, ◌*◌, min, ap, ◌∙◌, arith}
+use Rattle.std.proofs.Common.{rules, ◌≡◌, ◌*◌, ◌%◌, ◌^◌, min, ap, ◌∙◌, arith}
 use mir.Val.{bool_byte}
-use Rattle.orders.specs.Masks.{gathered}
-use Rattle.orders.proofs.MaskBits.{bit_small, gathered_fits, gathered_more}
+use lib.Bits.{bit_or}
+use Rattle.orders.proofs.Folds.{folded, bit_below}
 use Rattle.orders.proofs.masks.mask_of.Goals as goal
 
-pub overflow_mul-mask : goal.overflow_mul-mask
-overflow_mul-mask g c =
+pub returns : goal.returns
+returns g c =
     let p = g.P.Property.holds c.args.property.now in
-    omega (arith, gathered_fits p (min c.args.n 32 - c.loop-x.x) c.loop-x.x (omega arith), c.loop-x.invariant)
-
-pub overflow_add-mask : goal.overflow_add-mask
-overflow_add-mask g c =
-    let p = g.P.Property.holds c.args.property.now in
-    omega (arith, gathered_fits p (min c.args.n 32 - c.loop-x.x) c.loop-x.x (omega arith), c.loop-x.invariant, bit_small c.test.result)
-
-pub loop-x-preserved : goal.loop-x-preserved
-loop-x-preserved g c =
-    let p = g.P.Property.holds c.args.property.now in
-    let n = min c.args.n 32 in
-    ap (λ m. 2 * m + bool_byte c.test.result) c.loop-x.invariant
-    ∙ ap (λ b. 2 * gathered p c.loop-x.x (n - c.loop-x.x) + bool_byte b) c.test.ensures
-    ∙ gathered_more p n c.loop-x.x c.loop-x-test.true (omega arith)
+    folded _ _ p (min c.args.n 32) (omega arith)
+    (λ m x r h l k. let raw : r ≡ bit_or (m * 2 % 2 ^ 32) (bool_byte (p x)) = search rules in (search rules, raw ∙ bit_below (p x) m l))
+    c.rev.result c.fold.result (c.rev.ensures.source ∙ ap (λ n. record { start = 0; end = n }) c.min.ensures) c.fold.ensures.ran

@@ -1,4 +1,4 @@
-use Rattle.std.proofs.Common.{vec_items, refl, ap, ◌∙◌, arith, rules}
+use Rattle.std.proofs.Common.{vec_items, refl, ap, ◌∙◌, arith}
 use Rattle.logic.specs.Books.{Book, empty, with_entry}
 use Rattle.std.proofs.lemmas.Result.{err_from_is_err_and}
 use Rattle.books.specs.Replay.{replay}
@@ -7,12 +7,11 @@ use Rattle.books.proofs.Replays.{replay-push}
 use Rattle.books.proofs.Keeping.{kept, room, kept_entry}
 use Rattle.books.proofs.journal.JournalEditableBook.enter.Goals as goal
 
-pub returns-in_err-entry : goal.returns-in_err-entry
-returns-in_err-entry c =
+pub returns-in_err-entry-clause-exact : goal.returns-in_err-entry-clause-exact
+returns-in_err-entry-clause-exact c =
     let bk : Book = replay empty (vec_items c.args.self.now.records) in
     let p = err_from_is_err_and c.from_residual.result c.from_residual.ensures.1 in
-    let h = c.in_err-entry.ensures in
-    rw (p.1, p.2) (record { answer = search rules; exact = entry_refused_exact bk c.args.raw _ h })
+    rw p.1 (entry_refused_exact bk c.args.raw _ c.in_err-entry.ensures)
 
 pub push_reserved-requires : goal.push_reserved-requires
 push_reserved-requires c =

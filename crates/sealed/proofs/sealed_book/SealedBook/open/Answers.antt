@@ -1,18 +1,23 @@
-use Rattle.std.proofs.Common.{ℕ, ◌<◌, refl, rules}
+use Rattle.std.proofs.Common.{◌≡◌, ℕ, ◌<◌, sym, subst, rules}
 use Rattle.sealed.specs.Reading.{byte_at}
-use Rattle.sealed.proofs.Opening.{stood, stood_lawful, opened}
+use Rattle.sealed.specs.Frames.{book_in}
+use Rattle.sealed.specs.Checks.{Opened}
+use Rattle.sealed.proofs.Opening.{Counted, counted, counted_bytes, counted_stands, counted_lawful, opened}
 use Rattle.sealed.proofs.sealed_book.SealedBook.open.Goals as goal
 
 pub invariant_of-result : goal.invariant_of-result
 invariant_of-result c =
-    let bs = c.args.bytes.now in
-    let counts = c.counts_or_none-counts.result in
-    let s = stood bs counts.nodes counts.entries c.counts_or_none-counts.ensures in
-    record { stands = ∣ s ∣₁; lawful = ∣ stood_lawful bs counts.nodes counts.entries s ∣₁ }
+    let none = c.empty.ensures in
+    let f = c.unwrap_or-frame.result in
+    let h : Counted f = rw c.unwrap_or-frame.ensures (counted c.args.bytes.now c.checked.result c.empty.result c.checked.ensures none.same none.no_nodes none.no_entries) in
+    record { stands = counted_stands f h; lawful = ∣ counted_lawful f h ∣₁ }
 
-pub returns : goal.returns
-returns c =
+pub returns-clause-opened : goal.returns-clause-opened
+returns-clause-opened c =
     let bs = c.args.bytes.now in
-    let counts = c.counts_or_none-counts.result in
+    let none = c.empty.ensures in
+    let f = c.unwrap_or-frame.result in
+    let h : Counted f = rw c.unwrap_or-frame.ensures (counted bs c.checked.result c.empty.result c.checked.ensures none.same none.no_nodes none.no_entries) in
+    let is : f.bytes.now ≡ bs = rw c.unwrap_or-frame.ensures (counted_bytes bs c.checked.result c.empty.result c.checked.ensures none.same) in
     let bytes : (k : ℕ) → byte_at bs k < 256 = search rules in
-    record { within = refl; opened = opened bs counts.nodes counts.entries c.counts_or_none-counts.ensures bytes }
+    subst (λ b. Opened b (book_in f)) is (opened f h (subst (λ b. (k : ℕ) → byte_at b k < 256) (sym is) bytes))

@@ -1,0 +1,104 @@
+// Bytes with the counts of the records that stand in them, right before a trailer.
+ghost use Rattle.std.specs.Prelude.{◌≡◌, ◌+◌, ◌-◌, ◌*◌, ◌<◌, ◌≤◌, false, ◌&&◌, length, MatchOption, ◌==◌, nat_le};
+ghost use Rattle.sealed.specs.Writing.{records_length};
+ghost use Rattle.sealed.specs.Reading.{framed};
+
+use crate::bytes::{line_at, raw_node_at, u16_at, u32_at};
+use crate::counts::Counts;
+use logic::records::{Entry, Line, Node};
+
+// The counts are within the limits, and the bytes have room for the records and a trailer.
+#[derive(Clone, Copy)]
+pub(crate) struct Frame<'a> {
+    pub bytes: &'a [u8],
+    pub counts: Counts,
+    ghost few_nodes: { counts.nodes ≤ 512 },
+    ghost few_entries: { counts.entries ≤ 256 },
+    ghost fits: { records_length counts.nodes counts.entries ≤ length bytes.now - 8 },
+}
+
+// Whether a trailer with these counts and this distance fits the bytes, of which there are `len`.
+fn trailer_fits(len: usize, counts: Counts, distance: u32) -> bool
+    requires { 8 ≤ len }
+    ensures { result ≡ nat_le counts.nodes 512 && (nat_le counts.entries 256 && (distance == records_length counts.nodes counts.entries && nat_le distance (len - 8))) }
+{
+    let few = counts.nodes <= 512 && counts.entries <= 256;
+    few && distance == counts.records_length() && distance as usize <= len - 8
+}
+
+impl<'a> Frame<'a> {
+    ghost use Rattle.logic.specs.Books.{node_at, line_at};
+    ghost use Rattle.sealed.specs.Frames.{node_place, entry_place, book_in, Trailed};
+
+    // The bytes and both counts, where the trailer fits.
+    pub(crate) fn read(bytes: &'a [u8]) -> Option<Frame<'a>>
+        ensures { MatchOption result (framed bytes.now ≡ false) (λ f. (f.bytes.now ≡ bytes.now) × Trailed f) }
+    {
+        let len = bytes.len();
+        if len < 8 {
+            return None;
+        }
+        let counts = Counts {
+            nodes: u16_at(bytes, len - 8),
+            entries: u16_at(bytes, len - 6),
+        };
+        if !trailer_fits(len, counts, u32_at(bytes, len - 4)) {
+            return None;
+        }
+        Some(Frame { bytes, counts })
+    }
+
+    // The bytes with no records.
+    pub(crate) fn empty(bytes: &'a [u8]) -> Frame<'a>
+        ensures same { result.bytes.now ≡ bytes.now }
+        ensures no_nodes { result.counts.nodes ≡ 0 }
+        ensures no_entries { result.counts.entries ≡ 0 }
+    {
+        Frame {
+            bytes,
+            counts: Counts::default(),
+        }
+    }
+
+    // Where node i begins.
+    pub(crate) fn node_place(&self, i: u16) -> usize
+        requires { i < self.now.counts.nodes }
+        ensures place { result ≡ node_place self.now i }
+        ensures within { result + 5 ≤ length self.now.bytes.now }
+    {
+        self.bytes.len() - 8 - self.counts.records_length() as usize + 5 * i as usize
+    }
+
+    // Where entry j begins.
+    pub(crate) fn entry_place(&self, j: u16) -> usize
+        requires { j < self.now.counts.entries }
+        ensures place { result ≡ entry_place self.now j }
+        ensures within { result + 7 ≤ length self.now.bytes.now }
+    {
+        self.bytes.len() - 8 - 7 * self.counts.entries as usize + 7 * j as usize
+    }
+    // Node i, or Absent past the end.
+    #[tactic(auto, using(crate::proofs::Framing::frame_node, crate::proofs::Framing::frame_node_past))]
+    pub(crate) fn node_at(&self, i: u16) -> Node
+        ensures { result ≡ node_at (book_in self.now) i }
+    {
+        if i >= self.counts.nodes {
+            return Node::Absent;
+        }
+        Node::from(raw_node_at(self.bytes, self.node_place(i)))
+    }
+
+    // Entry j with its live mark, or Absent and not live past the end.
+    #[tactic(auto, using(crate::proofs::Framing::frame_line, crate::proofs::Framing::frame_line_past))]
+    pub(crate) fn line_at(&self, j: u16) -> Line
+        ensures { result ≡ line_at (book_in self.now) j }
+    {
+        if j >= self.counts.entries {
+            return Line {
+                entry: Entry::Absent,
+                live: false,
+            };
+        }
+        line_at(self.bytes, self.entry_place(j))
+    }
+}
