@@ -32,8 +32,8 @@ pub trait ReadableBook {
         ensures { result ≡ line_at (meaning self.now) i };
 }
 
-// A book that also takes nodes, entries and strikes. Nodes and entries have a call each, which keep other
-// records and another count; `write::Offered` is one call for both.
+// A book that also takes nodes, entries and strikes. A call each for nodes and entries is asked for, and they
+// keep other records and another count; `write::Offered` is one call for both.
 pub trait EditableBook: ReadableBook + Sized + Drop {
     // An empty book. Only this call can fail for want of memory.
     fn new(heap: Global) -> Result<Self, AllocError>

@@ -92,8 +92,7 @@ impl Refusal for StrikeFault {
 
     fn number(&self) -> u8 {
         match self {
-            StrikeFault::NeverEntered(_) => 6,
-            StrikeFault::Struck(_) => 6,
+            StrikeFault::NeverEntered(_) | StrikeFault::Struck(_) => 6,
         }
     }
 

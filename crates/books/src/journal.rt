@@ -10,9 +10,9 @@ ghost use Rattle.books.specs.Replay.{recorded, replay, recorded_nodes, struck_co
 use crate::book::{EditableBook, ReadableBook};
 use crate::faults::{EnterFault, NodeFault, StrikeFault};
 use crate::journal_record::Record;
-use crate::lines::{NO_LINE, taken};
+use crate::lines::taken;
 use crate::marked::{MarkedBook, MarkedNode, NO_NODE, may_strike, offered_entry, offered_node};
-use logic::records::{Line, Node, RawEntry, RawNode};
+use logic::records::{Line, NO_LINE, Node, RawEntry, RawNode};
 use std::alloc::{AllocError, Global};
 
 const RECORDS: usize = 1024;
@@ -77,6 +77,7 @@ fn line_at(records: &[Record], i: u16) -> Line
     requires { length records.now ≤ 1024 }
     ensures { result ≡ line_at (replay empty records.now) i }
 {
+    // a loop, since a fold's closure would not know that `seen` stays small
     let mut line = NO_LINE;
     let mut seen = 0;
     for record in records {

@@ -4,12 +4,6 @@ ghost use Rattle.logic.specs.Books.{no_line, struck};
 
 use logic::records::{Entry, Line};
 
-// What stands past the last line.
-pub(crate) const NO_LINE: Line = Line {
-    entry: Entry::Absent,
-    live: false,
-};
-
 // An entry that was just taken.
 pub(crate) fn taken(entry: Entry) -> Line
     ensures { result ≡ record { entry = entry; live = true } }

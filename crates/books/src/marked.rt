@@ -3,18 +3,19 @@ ghost use Rattle.std.specs.Prelude.{◌≡◌};
 ghost use Rattle.logic.specs.Concepts.{concepts, plain, is_typical};
 ghost use Rattle.logic.specs.Books.{concept};
 ghost use Rattle.books.specs.Answers.{Tells};
-ghost use Rattle.books.specs.Marks.{NodeOffered, EntryOffered, MayStrike};
+ghost use Rattle.books.specs.Marks.{HasRoom, NodeOffered, EntryOffered, MayStrike};
 
 use crate::book::ReadableBook;
 use crate::faults::{EnterFault, NodeFault, OfferFault, Reason, StrikeFault};
 use crate::offers::{Sides, judge_entry, judge_node, plain_node, typical_node};
 use logic::records::{Entry, Node, RawEntry, RawNode};
 
-const NODES: u16 = 512;
+// How many nodes a book has at most, and how many entries.
+pub(crate) const NODES: u16 = 512;
 
-const ENTRIES: u16 = 256;
+pub(crate) const ENTRIES: u16 = 256;
 
-// A node and whether it is plain.
+// A node and whether it is plain, which is a fact about the node and not whether there is one.
 #[derive(Clone, Copy)]
 pub(crate) struct MarkedNode {
     pub(crate) node: Node,
@@ -31,6 +32,16 @@ pub(crate) trait MarkedBook: ReadableBook {
     // Whether no typicality occurs in node i; past the end none does.
     fn plain_at(&self, i: u16) -> bool
         ensures { result ≡ plain (concept (Self.ReadableBook.meaning self.now) i) };
+}
+
+// Whether there is room for one record more.
+fn room<R>(count: u16, limit: u16) -> Result<(), OfferFault<R>>
+    ensures { HasRoom count limit result }
+{
+    if count >= limit {
+        return Err(OfferFault::new(Reason::Full, count));
+    }
+    Ok(())
 }
 
 // Whether the nodes a and b are plain.
@@ -50,14 +61,12 @@ fn typical_at<B: ReadableBook>(book: &B, i: u16) -> bool
     typical_node(book.node_at(i))
 }
 
-// The offered node with its mark, or why the book refuses it.
+// The offered node with its mark, or why the book refuses it. Apart from that of an entry, as the tests are.
 pub(crate) fn offered_node<B: MarkedBook>(book: &B, raw: RawNode) -> Result<MarkedNode, NodeFault>
     ensures { NodeOffered (B.ReadableBook.meaning book.now) raw result }
 {
     let count = book.node_count();
-    if count >= NODES {
-        return Err(OfferFault::new(Reason::Full, count));
-    }
+    room(count, NODES)?;
     let sides = sides(book, raw.a, raw.b);
     let node = judge_node(count, sides, raw).map_err(|unfit| OfferFault::new(
         Reason::Unfit(unfit),
@@ -72,9 +81,7 @@ pub(crate) fn offered_entry<B: MarkedBook>(book: &B, raw: RawEntry) -> Result<En
     ensures { EntryOffered (B.ReadableBook.meaning book.now) raw result }
 {
     let count = book.entry_count();
-    if count >= ENTRIES {
-        return Err(OfferFault::new(Reason::Full, count));
-    }
+    room(count, ENTRIES)?;
     let sides = sides(book, raw.a, raw.b);
     judge_entry(book.node_count(), typical_at(book, raw.a), sides, raw).map_err(
         |unfit| OfferFault::new(Reason::Unfit(unfit), count),

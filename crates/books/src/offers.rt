@@ -1,4 +1,5 @@
-// The tests of a node or an entry that is offered to a book.
+// The tests of a node or an entry that is offered to a book. "For every book" and "for every list of concepts"
+// stand in many contracts: they bind a variable of the statement, and are no fact about a value.
 ghost use Rattle.std.specs.Prelude.{◌≡◌, List, length};
 ghost use Rattle.logic.specs.Written.{node_of, node_a, node_b, entry_of, entry_a, entry_b};
 ghost use Rattle.logic.specs.Concepts.{Concept, concepts, of, read, plain, is_typical};
@@ -18,7 +19,8 @@ pub struct Sides {
 }
 
 // The first of four tests that fails, in the order of the refusals, for nodes and entries. The tests themselves
-// are two sets: one function over both would take a trait with a ghost member for each test.
+// are two sets: one function over both would take a trait with a ghost member for each test. Four flags and no
+// enum: each test is told by a function of its own, and only their order is said here.
 fn first_unfit(known: bool, in_range: bool, there: bool, placed: bool) -> Result<(), Unfit>
     ensures { FirstUnfit known in_range there placed result }
 {

@@ -1,3 +1,4 @@
+// Records by number, as they are offered.
 // The sample book: typically a release is paired, typically a yanked release is not, and individual 0
 // is a typical yanked release. Names 0, 1 and 2 are release, yanked and paired. With it go a question and two
 // tableaux, five bytes for each step.

@@ -7,15 +7,13 @@ ghost use Rattle.logic.proofs.Deciding.{lawful_known};
 
 use crate::book::{EditableBook, ReadableBook};
 use crate::faults::{EnterFault, NodeFault, StrikeFault};
-use crate::lines::{NO_LINE, strike_line, taken};
+use crate::lines::{strike_line, taken};
 use crate::lists::item_or;
-use crate::marked::{MarkedBook, MarkedNode, NO_NODE, may_strike, offered_entry, offered_node};
-use logic::records::{Line, Node, RawEntry, RawNode};
+use crate::marked::{
+    ENTRIES, MarkedBook, MarkedNode, NO_NODE, NODES, may_strike, offered_entry, offered_node,
+};
+use logic::records::{Line, NO_LINE, Node, RawEntry, RawNode};
 use std::alloc::{AllocError, Global};
-
-const NODES: usize = 512;
-
-const ENTRIES: usize = 256;
 
 // The memory of all records is reserved when the table is made.
 #[derive(Drop)]
@@ -60,8 +58,8 @@ impl MarkedBook for SlotTable {
 
 impl EditableBook for SlotTable {
     fn new(heap: Global) -> Result<SlotTable, AllocError> {
-        let nodes = Vec::with_capacity(heap, NODES)?;
-        let lines = Vec::with_capacity(heap, ENTRIES)?;
+        let nodes = Vec::with_capacity(heap, NODES as usize)?;
+        let lines = Vec::with_capacity(heap, ENTRIES as usize)?;
         Ok(SlotTable { nodes, lines })
     }
 

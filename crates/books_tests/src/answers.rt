@@ -1,7 +1,10 @@
 // What a call answered, in numbers that can be compared.
 use books::book::EditableBook;
+use books::journal::Journal;
+use books::slot_table::SlotTable;
 use logic::records::{RawEntry, RawNode};
 use logic::refusal::told;
+use std::alloc::AllocError;
 
 // What was granted, or the number and the place of the refusal.
 pub(crate) type Answer = Result<u16, (u8, usize)>;
@@ -18,8 +21,12 @@ pub(crate) fn enter<B: EditableBook>(book: &mut B, kind: u8, a: u16, b: u16, c: 
 }
 
 pub(crate) fn strike<B: EditableBook>(book: &mut B, i: u16) -> Answer {
-    match book.strike(i) {
-        Ok(()) => Ok(i),
-        Err(fault) => Err(told(&fault)),
-    }
+    book.strike(i).map(|()| i).map_err(|fault| told(&fault))
+}
+
+// A new book of each kind.
+pub(crate) fn both(rt: &HostRuntime) -> Result<(SlotTable, Journal), AllocError> {
+    let table = EditableBook::new(rt.alloc())?;
+    let journal = EditableBook::new(rt.alloc())?;
+    Ok((table, journal))
 }

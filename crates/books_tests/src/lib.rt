@@ -1,5 +1,5 @@
 // Tests of editable books at their limits, the same for every kind of book. Each test runs a generic function on
-// both kinds by name: no closure can be generic, so one function over these functions cannot be written.
+// both kinds; a trait with a generic method, one impl for each test, would say no more in more lines.
 #![tactic(auto)]
 
 #[cfg(test)]

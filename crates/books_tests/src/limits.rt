@@ -1,8 +1,8 @@
 // The limits on numbers and counts, and what stands past the end.
-use crate::answers::{enter, node, strike};
+use crate::answers::{both, enter, node, strike};
 use books::book::{EditableBook, ReadableBook};
-use books::journal::Journal;
-use books::slot_table::SlotTable;
+use books::write::write_all;
+use logic::records::{RawEntry, RawNode};
 use std::process::Abort;
 use std::test::Fail;
 
@@ -19,9 +19,8 @@ fn node_limit<B: EditableBook>(rt: &impl Abort, book: &mut B) {
 
 #[test]
 fn node_512_is_granted_and_513_refused(rt: HostRuntime) -> Result<(), Fail> {
-    let mut table: SlotTable = EditableBook::new(rt.alloc())?;
+    let (mut table, mut journal) = both(&rt)?;
     node_limit(&rt, &mut table);
-    let mut journal: Journal = EditableBook::new(rt.alloc())?;
     node_limit(&rt, &mut journal);
     Ok(())
 }
@@ -37,13 +36,13 @@ fn entry_limit<B: EditableBook>(rt: &impl Abort, book: &mut B) {
 
 #[test]
 fn entry_256_is_granted_and_257_refused(rt: HostRuntime) -> Result<(), Fail> {
-    let mut table: SlotTable = EditableBook::new(rt.alloc())?;
+    let (mut table, mut journal) = both(&rt)?;
     entry_limit(&rt, &mut table);
-    let mut journal: Journal = EditableBook::new(rt.alloc())?;
     entry_limit(&rt, &mut journal);
     Ok(())
 }
 
+// By number, as records are offered.
 // Nodes that are refused by a book of one node, with the number of the refusal.
 const BAD_NODES: [(u8, u16, u16, u8); 22] = [
     (9, 0, 0, 2),
@@ -88,17 +87,15 @@ fn nodes_at_their_limits<B: EditableBook>(rt: &impl Abort, book: &mut B) {
         assert_eq!(rt; node(book, kind, a, b), Err((number, 1)));
     }
     assert_eq!(rt; book.node_count(), 1);
-    for (kind, a, b) in GOOD_NODES {
-        assert!(rt; node(book, kind, a, b).is_ok());
-    }
+    let raws = GOOD_NODES.map(|(kind, a, b)| RawNode { kind, a, b });
+    assert!(rt; write_all(book, &raws).is_ok());
     assert_eq!(rt; book.node_count(), 9);
 }
 
 #[test]
 fn nodes_are_refused_past_their_limits(rt: HostRuntime) -> Result<(), Fail> {
-    let mut table: SlotTable = EditableBook::new(rt.alloc())?;
+    let (mut table, mut journal) = both(&rt)?;
     nodes_at_their_limits(&rt, &mut table);
-    let mut journal: Journal = EditableBook::new(rt.alloc())?;
     nodes_at_their_limits(&rt, &mut journal);
     Ok(())
 }
@@ -130,17 +127,15 @@ fn entries_at_their_limits<B: EditableBook>(rt: &impl Abort, book: &mut B) {
         assert_eq!(rt; enter(book, kind, a, b, c), Err((number, 1)));
     }
     assert_eq!(rt; book.entry_count(), 1);
-    for (kind, a, b, c) in GOOD_ENTRIES {
-        assert!(rt; enter(book, kind, a, b, c).is_ok());
-    }
+    let raws = GOOD_ENTRIES.map(|(kind, a, b, c)| RawEntry { kind, a, b, c });
+    assert!(rt; write_all(book, &raws).is_ok());
     assert_eq!(rt; book.entry_count(), 4);
 }
 
 #[test]
 fn entries_are_refused_past_their_limits(rt: HostRuntime) -> Result<(), Fail> {
-    let mut table: SlotTable = EditableBook::new(rt.alloc())?;
+    let (mut table, mut journal) = both(&rt)?;
     entries_at_their_limits(&rt, &mut table);
-    let mut journal: Journal = EditableBook::new(rt.alloc())?;
     entries_at_their_limits(&rt, &mut journal);
     Ok(())
 }
@@ -158,9 +153,8 @@ fn filled<B: EditableBook>(rt: &impl Abort, book: &mut B) {
 
 #[test]
 fn a_full_book_takes_every_strike(rt: HostRuntime) -> Result<(), Fail> {
-    let mut table: SlotTable = EditableBook::new(rt.alloc())?;
+    let (mut table, mut journal) = both(&rt)?;
     filled(&rt, &mut table);
-    let mut journal: Journal = EditableBook::new(rt.alloc())?;
     filled(&rt, &mut journal);
     Ok(())
 }

@@ -1,14 +1,13 @@
 // What a book answers of its records: as they were offered, past the end, and after a strike.
-use crate::answers::strike;
+use crate::answers::{both, strike};
 use books::book::{EditableBook, ReadableBook};
-use books::journal::Journal;
 use books::sample;
-use books::slot_table::SlotTable;
 use books::write::write_all;
 use logic::records::{RawEntry, RawNode};
 use std::process::Abort;
 use std::test::Fail;
 
+// By number, as records are offered.
 // What stands past the end.
 const NO_NODE: RawNode = RawNode {
     kind: 255,
@@ -45,9 +44,8 @@ fn reads_back<B: EditableBook>(rt: &impl Abort, book: &mut B) {
 
 #[test]
 fn records_read_back_as_offered(rt: HostRuntime) -> Result<(), Fail> {
-    let mut table: SlotTable = EditableBook::new(rt.alloc())?;
+    let (mut table, mut journal) = both(&rt)?;
     reads_back(&rt, &mut table);
-    let mut journal: Journal = EditableBook::new(rt.alloc())?;
     reads_back(&rt, &mut journal);
     Ok(())
 }
@@ -69,9 +67,8 @@ fn past_the_end<B: EditableBook>(rt: &impl Abort, book: &mut B) {
 
 #[test]
 fn nothing_stands_past_the_end(rt: HostRuntime) -> Result<(), Fail> {
-    let mut table: SlotTable = EditableBook::new(rt.alloc())?;
+    let (mut table, mut journal) = both(&rt)?;
     past_the_end(&rt, &mut table);
-    let mut journal: Journal = EditableBook::new(rt.alloc())?;
     past_the_end(&rt, &mut journal);
     Ok(())
 }
@@ -84,15 +81,20 @@ fn strikes<B: EditableBook>(rt: &impl Abort, book: &mut B) {
     assert_eq!(rt; strike(book, 3), Err((6, 3)));
     assert_eq!(rt; strike(book, 65535), Err((6, 65535)));
     assert!(rt; book.entry_at(0).live && !book.entry_at(1).live && book.entry_at(2).live);
-    check_line(rt, book, 1, sample::ENTRIES[1]);
+    let struck = RawEntry {
+        kind: 1,
+        a: 5,
+        b: 6,
+        c: 0,
+    };
+    check_line(rt, book, 1, struck);
     assert_eq!(rt; book.entry_count(), 3);
 }
 
 #[test]
 fn an_entry_is_struck_once(rt: HostRuntime) -> Result<(), Fail> {
-    let mut table: SlotTable = EditableBook::new(rt.alloc())?;
+    let (mut table, mut journal) = both(&rt)?;
     strikes(&rt, &mut table);
-    let mut journal: Journal = EditableBook::new(rt.alloc())?;
     strikes(&rt, &mut journal);
     Ok(())
 }

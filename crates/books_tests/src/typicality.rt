@@ -1,11 +1,12 @@
 // Where T may stand.
-use crate::answers::{enter, node};
+use crate::answers::{both, enter, node};
 use books::book::EditableBook;
-use books::journal::Journal;
-use books::slot_table::SlotTable;
+use books::write::write_all;
+use logic::records::RawNode;
 use std::process::Abort;
 use std::test::Fail;
 
+// By number, as records are offered.
 // Names a and b, T(a), not T(a), T(a) and b, b or T(a).
 const NODES: [(u8, u16, u16); 6] = [
     (2, 0, 0),
@@ -17,9 +18,8 @@ const NODES: [(u8, u16, u16); 6] = [
 ];
 
 fn write_nodes<B: EditableBook>(rt: &impl Abort, book: &mut B) {
-    for (kind, a, b) in NODES {
-        assert!(rt; node(book, kind, a, b).is_ok());
-    }
+    let raws = NODES.map(|(kind, a, b)| RawNode { kind, a, b });
+    assert!(rt; write_all(book, &raws).is_ok());
 }
 
 fn below_all_some_and_typical<B: EditableBook>(rt: &impl Abort, book: &mut B) {
@@ -37,9 +37,8 @@ fn below_all_some_and_typical<B: EditableBook>(rt: &impl Abort, book: &mut B) {
 
 #[test]
 fn typicality_stands_nowhere_below_all_some_and_typical(rt: HostRuntime) -> Result<(), Fail> {
-    let mut table: SlotTable = EditableBook::new(rt.alloc())?;
+    let (mut table, mut journal) = both(&rt)?;
     below_all_some_and_typical(&rt, &mut table);
-    let mut journal: Journal = EditableBook::new(rt.alloc())?;
     below_all_some_and_typical(&rt, &mut journal);
     Ok(())
 }
@@ -62,9 +61,8 @@ fn in_entries<B: EditableBook>(rt: &impl Abort, book: &mut B) {
 
 #[test]
 fn typicality_stands_on_the_left_and_in_facts(rt: HostRuntime) -> Result<(), Fail> {
-    let mut table: SlotTable = EditableBook::new(rt.alloc())?;
+    let (mut table, mut journal) = both(&rt)?;
     in_entries(&rt, &mut table);
-    let mut journal: Journal = EditableBook::new(rt.alloc())?;
     in_entries(&rt, &mut journal);
     Ok(())
 }

@@ -6,7 +6,7 @@ ghost use Rattle.docket.specs.declared.fault.Fault.TheVariants.{Node, Enter, Str
 use books::faults::{EnterFault, NodeFault, StrikeFault};
 use judge::faults::RefuteFault;
 use judge::show_faults::ShowFault;
-use logic::refusal::Refusal;
+use logic::refusal::{Refusal, told};
 
 #[derive(Clone, Copy)]
 pub enum Fault {
@@ -17,30 +17,33 @@ pub enum Fault {
     Show(ShowFault),
 }
 
-// Those of the lower fault, by two matches: one method for both would hand out a `dyn`, which the gate refuses.
+impl Fault {
+    // The number and the place of the lower fault.
+    fn told(&self) -> (u8, usize)
+        ensures number { result.0 ≡ fault_number self.now }
+        ensures place { result.1 ≡ fault_place self.now }
+    {
+        match self {
+            Fault::Node(fault) => told(fault),
+            Fault::Enter(fault) => told(fault),
+            Fault::Strike(fault) => told(fault),
+            Fault::Refute(fault) => told(fault),
+            Fault::Show(fault) => told(fault),
+        }
+    }
+}
+
 impl Refusal for Fault {
     ghost numbered = { fault_number };
 
     ghost placed = { fault_place };
 
     fn number(&self) -> u8 {
-        match self {
-            Fault::Node(fault) => fault.number(),
-            Fault::Enter(fault) => fault.number(),
-            Fault::Strike(fault) => fault.number(),
-            Fault::Refute(fault) => fault.number(),
-            Fault::Show(fault) => fault.number(),
-        }
+        self.told().0
     }
 
     fn place(&self) -> usize {
-        match self {
-            Fault::Node(fault) => fault.place(),
-            Fault::Enter(fault) => fault.place(),
-            Fault::Strike(fault) => fault.place(),
-            Fault::Refute(fault) => fault.place(),
-            Fault::Show(fault) => fault.place(),
-        }
+        self.told().1
     }
 }
 

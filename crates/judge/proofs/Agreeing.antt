@@ -27,8 +27,24 @@ use Rattle.judge.specs.declared.step_fault.StepFault.{StepFault}
 use Rattle.judge.specs.declared.step_fault.StepFault.TheVariants.{Malformed, NeverEntered, NotThere, Struck, Misfit}
 use Rattle.judge.specs.Blanks.{no_constraint, no_edge}
 use Rattle.judge.specs.Ops.{op_of, operand_of, cites, stray, there}
-use Rattle.judge.specs.Decisions.{number_of, along, alike, denies, row, expanded, cited, by_entry, by_constraint, by_op, decided, decision}
+use Rattle.judge.specs.Decisions.{along, alike, denies, row, expanded, cited, by_entry, by_constraint, by_op, decided, decision}
 use Rattle.judge.proofs.Parting.{entry_found, constraint_found}
+
+-- the number of an op
+abbrev number_of : Op → ℕ
+number_of op.Assert = 1
+number_of op.Include = 2
+number_of op.Negation = 3
+number_of op.Conjunction = 4
+number_of op.Disjunction = 5
+number_of op.Successor = 6
+number_of op.AlongRole = 7
+number_of op.Typical = 8
+number_of op.Atypical = 9
+number_of op.Better = 10
+number_of op.AlongBetter = 11
+number_of op.Clash = 12
+number_of op.Absurd = 13
 
 -- a number that has an op is the number of that op
 one_of : (k j : ℕ) (x o : Op) (rest : Option Op) → j ≡ number_of x → (rest ≡ Some o → k ≡ number_of o) → cond (eqb k j) (Some x) rest ≡ Some o → k ≡ number_of o

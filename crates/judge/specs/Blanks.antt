@@ -32,10 +32,11 @@ pub record AllBlank (ls : Lengths) (cs : List Constraint) (es : List Edge) (ss :
   pub edges : es ≡ replicate ls.edges no_edge
   pub splits : ss ≡ replicate ls.splits no_split
 
--- the same of lists that are lent
+-- how long the lent lists are
 abbrev pub lengths_of : Lists → Lengths
 lengths_of l = lengths l.constraints.now l.edges.now l.splits.now
 
+-- every record of the lent lists is blank
 abbrev pub NoneInUse : Lists → Type 0
 NoneInUse l = AllBlank (lengths_of l) l.constraints.now l.edges.now l.splits.now
 
@@ -44,6 +45,7 @@ pub record SameList {A : Type 0} (before after : MutBor (List A)) : Type 0 where
   pub reference : after.ghost_name ≡ before.ghost_name
   pub long : length after.now ≡ length before.now
 
+-- all three are
 pub record SameLists (before after : Lists) : Type 0 where
   pub constraints : SameList before.constraints after.constraints
   pub edges : SameList before.edges after.edges

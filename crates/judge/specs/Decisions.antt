@@ -25,22 +25,6 @@ use Rattle.judge.specs.declared.step_fault.StepFault.TheVariants.{Malformed, Nev
 use Rattle.judge.specs.Blanks.{no_constraint, no_edge}
 use Rattle.judge.specs.Ops.{op_of, operand_of, cites, stray, there}
 
--- the number of an op
-abbrev pub number_of : Op → ℕ
-number_of op.Assert = 1
-number_of op.Include = 2
-number_of op.Negation = 3
-number_of op.Conjunction = 4
-number_of op.Disjunction = 5
-number_of op.Successor = 6
-number_of op.AlongRole = 7
-number_of op.Typical = 8
-number_of op.Atypical = 9
-number_of op.Better = 10
-number_of op.AlongBetter = 11
-number_of op.Clash = 12
-number_of op.Absurd = 13
-
 -- an effect along an edge that leads from x by role r
 abbrev pub along : Edge → ℕ → ℕ → Effect → Option Effect
 along e x r f = cond (e.from == x && e.role == r) (Some f) None

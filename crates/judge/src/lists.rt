@@ -1,8 +1,9 @@
-// Work on lent lists of records that have a blank: the records in front are in use, the others blank.
+// Work on lent lists of records that have a blank: the records in front are in use, the others blank. How many
+// are in use goes beside a list, which is the caller's slice.
 ghost use Rattle.std.specs.Prelude.{◌≡◌, ◌+◌, ◌++◌, length, take, drop, replicate, nat_le, slice_index_or, is_ok, if◌then◌else◌};
 ghost use Rattle.judge.specs.Lists.{Blanked};
 
-// A record that has a blank: zero in each field.
+// A record that has a blank: zero in each field. In place of Default, which gives generic code no fixed value.
 pub trait Blank: Copy {
     ghost zeroed: { Self };
 

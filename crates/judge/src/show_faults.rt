@@ -4,7 +4,7 @@ ghost use Rattle.std.specs.Prelude.{◌≡◌};
 ghost use Rattle.judge.specs.ShowFaults.{show_fault_number, show_fault_place};
 ghost use Rattle.judge.specs.declared.show_faults.ShowFault.TheVariants.{View, Fill};
 
-use logic::refusal::{BadLength, Refusal};
+use logic::refusal::{BadLength, Refusal, told};
 use models::faults::ViewFault;
 
 // A list that has not a place for each node: 17, with its length.
@@ -20,28 +20,32 @@ pub enum ShowFault {
     EntryFails(u16),
 }
 
-// The number and the place of a lower fault are its own.
+impl ShowFault {
+    // The number and the place; those of a lower fault are its own.
+    fn told(&self) -> (u8, usize)
+        ensures number { result.0 ≡ show_fault_number self.now }
+        ensures place { result.1 ≡ show_fault_place self.now }
+    {
+        match self {
+            ShowFault::View(fault) => told(fault),
+            ShowFault::OrderSize(size) => (16, *size as usize),
+            ShowFault::Fill(fault) => told(fault),
+            ShowFault::EntryFails(i) => (18, *i as usize),
+        }
+    }
+}
+
 impl Refusal for ShowFault {
     ghost numbered = { show_fault_number };
 
     ghost placed = { show_fault_place };
 
     fn number(&self) -> u8 {
-        match self {
-            ShowFault::View(fault) => fault.number(),
-            ShowFault::OrderSize(_) => 16,
-            ShowFault::Fill(fault) => fault.number(),
-            ShowFault::EntryFails(_) => 18,
-        }
+        self.told().0
     }
 
     fn place(&self) -> usize {
-        match self {
-            ShowFault::View(fault) => fault.place(),
-            ShowFault::OrderSize(size) => *size as usize,
-            ShowFault::Fill(fault) => fault.place(),
-            ShowFault::EntryFails(i) => *i as usize,
-        }
+        self.told().1
     }
 }
 

@@ -1,4 +1,5 @@
-// One step of a tableau.
+// One step of a tableau. "For every branch" and "for every state" bind a variable of a statement, and are no fact
+// about a value.
 ghost use Rattle.std.specs.Prelude.{◌≡◌};
 ghost use Rattle.logic.specs.Branches.{Branch};
 ghost use Rattle.judge.specs.Blanks.{SameLists, lengths_of};
@@ -83,9 +84,7 @@ fn decide<B: ReadableBook>(
 ) -> Result<Effect, StepFault>
     ensures { (σ : State) → Holds lists.now at σ → result ≡ decision (B.meaning book.now) σ.branch step }
 {
-    let Ok(op) = Op::try_from(step.op) else {
-        return Err(StepFault::Malformed);
-    };
+    let op = Op::try_from(step.op).map_err(|_| StepFault::Malformed)?;
     if op.second() == Operand::Unused && step.b != 0 {
         return Err(StepFault::Malformed);
     }

@@ -19,7 +19,8 @@ pub struct Split {
     pub second: Constraint,
 }
 
-// The three lists, as they are lent.
+// The three lists, as they are lent. Each method says that they are still the slices that were lent
+// (SameLists), which a struct of `&mut` has to say.
 #[derive(Drop)]
 pub(crate) struct Lists<'a> {
     pub(crate) constraints: &'a mut [Constraint],
@@ -27,7 +28,8 @@ pub(crate) struct Lists<'a> {
     pub(crate) splits: &'a mut [Split],
 }
 
-// How many records of each list are in use, and how many labels there are.
+// How many records of each list are in use, and how many labels there are. They are no part of Lists, since
+// they go back at a split, and there are none when the last branch is closed; the lists are the caller's slices.
 #[derive(Clone, Copy)]
 pub(crate) struct Counts {
     pub(crate) constraints: usize,

@@ -7,6 +7,7 @@ use std::alloc::{AllocError, Global};
 use std::process::Abort;
 use std::test::Fail;
 
+// By number, as records are offered.
 // The kinds of nodes 0 to 8: a name, top, bottom, not, and, or, all, some and T, of the name.
 const KINDS: [u8; 9] = [2, 0, 1, 3, 4, 5, 6, 7, 8];
 

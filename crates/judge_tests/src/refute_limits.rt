@@ -3,6 +3,7 @@ use crate::refuted::{Room, add_step, book_of, judged};
 use logic::records::{RawEntry, RawNode};
 use std::test::Fail;
 
+// By number, as records are offered.
 // top, bottom, some role 0 top
 const NODES: [RawNode; 3] = [
     RawNode {

@@ -30,8 +30,7 @@ fn every_mask(rt: HostRuntime) -> Result<(), Fail> {
     let book = empty_book(rt.alloc())?;
     let mut order = Ranks::new();
     let _ = order.fill(&[0, 0]);
-    for i in 0..576 {
-        let at = 1 + 4 * i;
+    for at in (1..2305).step_by(4) {
         assert_eq!(rt; changed(&book, &order, at, 4), Err((14, at)));
         assert_eq!(rt; changed(&book, &order, at + 3, 128), Err((14, at)));
     }
@@ -44,8 +43,7 @@ fn every_role(rt: HostRuntime) -> Result<(), Fail> {
     let book = empty_book(rt.alloc())?;
     let mut order = Ranks::new();
     let _ = order.fill(&[0, 0]);
-    for i in 0..512 {
-        let at = 257 + 4 * i;
+    for (i, at) in (257..2305).step_by(4).enumerate() {
         let verdict = if i % 32 < 2 { Ok(2) } else { Err((14, at)) };
         assert_eq!(rt; changed(&book, &order, at, 1), verdict);
     }
@@ -57,8 +55,7 @@ fn every_individual(rt: HostRuntime) -> Result<(), Fail> {
     let book = empty_book(rt.alloc())?;
     let mut order = Ranks::new();
     let _ = order.fill(&[0, 0]);
-    for a in 0..32 {
-        let at = 2305 + a;
+    for at in 2305..2337 {
         assert_eq!(rt; changed(&book, &order, at, 1), Ok(2));
         assert_eq!(rt; changed(&book, &order, at, 2), Err((14, at)));
     }

@@ -1,7 +1,7 @@
 -- Why a book refuses an offered node or entry, by the number of the first test that fails, and 0
 -- where none does; and what it means to be granted.
 -- first_unfit: the tests in their order. node_unfit, entry_unfit: the tests of an offered record.
--- node_refusal, entry_refusal: the same, the limit first.
+-- unless_full: the limit before them. node_refusal, entry_refusal: both, for a node and for an entry.
 -- NodeFits, EntryFits: when a book can take the offered record and stay lawful.
 -- Assumes nothing.
 use Rattle.std.specs.Prelude.{ℕ, Bool, cond, not, ◌&&◌, length, ◌==◌, nat_le}
@@ -29,9 +29,12 @@ abbrev pub node_unfit : Book → RawNode → ℕ
 node_unfit bk raw =
     first_unfit (node_known (node_of raw)) (node_within_limits (node_of raw) && node_unused_zero raw) (node_operands_below (length bk.nodes) (node_of raw)) (node_placed (concepts bk.nodes) (node_of raw))
 
--- 1 at the limit, and otherwise why it does not fit
+-- 1 at the limit, and otherwise why the record does not fit
+abbrev pub unless_full : ℕ → ℕ → ℕ → ℕ
+unless_full limit count unfit = cond (nat_le limit count) 1 unfit
+
 abbrev pub node_refusal : Book → RawNode → ℕ
-node_refusal bk raw = cond (nat_le 512 (length bk.nodes)) 1 (node_unfit bk raw)
+node_refusal bk raw = unless_full 512 (length bk.nodes) (node_unfit bk raw)
 
 abbrev pub entry_unused_zero : RawEntry → Bool
 entry_unused_zero raw =
@@ -43,7 +46,7 @@ entry_unfit bk raw =
     first_unfit (entry_known (entry_of raw)) (entry_within_limits (entry_of raw) && entry_unused_zero raw) (entry_operands_below (length bk.nodes) (entry_of raw)) (entry_placed (concepts bk.nodes) (entry_of raw))
 
 abbrev pub entry_refusal : Book → RawEntry → ℕ
-entry_refusal bk raw = cond (nat_le 256 (length bk.lines)) 1 (entry_unfit bk raw)
+entry_refusal bk raw = unless_full 256 (length bk.lines) (entry_unfit bk raw)
 
 -- the offer writes a node with which the book is lawful
 abbrev pub NodeFits : Book → RawNode → Type 0

@@ -28,12 +28,19 @@ pub enum Entry {
     Absent,
 }
 
-// An entry in its place, live until it is struck. A struck line keeps its entry, so the mark stands beside it.
+// An entry in its place, live until it is struck. A mark beside the entry, since a case for live and one for struck
+// would hold the same.
 #[derive(Clone, Copy)]
 pub struct Line {
     pub entry: Entry,
     pub live: bool,
 }
+
+// What stands past the last line of a book.
+pub const NO_LINE: Line = Line {
+    entry: Entry::Absent,
+    live: false,
+};
 
 // A node as it is written and offered: nothing is known of its numbers. The kind is one of them, since an
 // unknown kind is offered too, and refused.

@@ -26,7 +26,7 @@ pub fn told<F: Refusal>(fault: &F) -> (u8, usize)
 }
 
 // A length that does not do, of the bytes, the list or the buffer that a call was handed. The number of
-// the refusal is in the type, and the place is the length.
+// the refusal is in the type, as a number since that is what a planner reads, and the place is the length.
 #[derive(Clone, Copy)]
 pub struct BadLength<const NUMBER: u8>(pub usize);
 

@@ -78,6 +78,7 @@ impl Tables {
         if let Some(a) = self.first_name() {
             return Some(1 + 4 * a);
         }
+        // tried: `find_map`, whose proof did not close at once; it takes a lemma over the run of rows, and the loop none
         for (r, row) in self.roles.iter().enumerate() {
             if let Some(x) = first_led(self.size, row) {
                 return Some(257 + 4 * (32 * r + x));

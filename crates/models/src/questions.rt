@@ -29,7 +29,8 @@ impl View {
             .unwrap_or(0)
     }
 
-    // The element of an individual; 0 past the last.
+    // The element of an individual; 0 past the last. Not one function with `name`: each is one line, over a table
+    // of its own.
     pub fn element(&self, individual: u16) -> u8
         ensures { result ≡ (held self.now).individual individual }
     {

@@ -69,7 +69,8 @@ pub fn typical<O: Order>(order: &O, set: u32) -> u32
     mask_of(&Best { order, set }, order.size())
 }
 
-// The set of a node's concept, where the list has the sets of the concepts of the nodes before it.
+// The set of a node's concept, where the list has the sets of the concepts of the nodes before it. The list goes
+// beside the view and is no part of it, since the caller lends it.
 pub fn extension<O: Order>(view: &View, order: &O, list: &[u32], node: Node) -> u32
     ensures { SetOfNode (held view.now) (O.meaning order.now) list.now node result }
 {

@@ -15,7 +15,7 @@ pub struct ByPairs;
 
 pub type Pairs = Filled<ByPairs>;
 
-// The rows of at most 32 elements, of which no law is known yet.
+// The rows of at most 32 elements, of which no law is known yet, so these are no `Rows`.
 #[derive(Drop)]
 struct Offer {
     size: u8,

@@ -10,7 +10,7 @@ pub(crate) fn fill<E: Encoding>(order: &mut Filled<E>, bytes: &[u8]) -> Result<(
     order.fill(bytes).map_err(|fault| told(&fault))
 }
 
-// The order has one element.
+// The order has one element. It is asked by number, here and below.
 pub(crate) fn is_alone<O: Order>(rt: &impl Abort, order: &O) {
     assert_eq!(rt; order.size(), 1);
     for x in 0..=255u8 {

@@ -1,12 +1,15 @@
 -- The steps of the check: faults, marks, one record more, the whole. Assumes nothing.
 use Rattle.std.proofs.Common.{◌≡◌, ℕ, zero, suc, ◌+◌, ◌<◌, Bool, true, cond, ◌&&◌, eqb, leb, List, [], ◌∷◌, ◌++◌, length, get_or, set, replicate, Result, Ok, Err, MatchResult, sym, refl, ap, ◌∙◌, subst, inl, inr, arith}
-use Rattle.std.specs.Result.{IsOkAnd}
+use Rattle.std.specs.Result.{IsOkAnd, IsErrAnd, is_ok}
 use Rattle.std.proofs.lemmas.List.{get_or-set_same, get_or-set_other, get_or_push}
 use Rattle.std.proofs.lemmas.Bool.{cases_eq, cases_lt, lt-leb, false≢true}
 use Rattle.logic.specs.declared.records.Node.{Node}
 use Rattle.logic.specs.Concepts.{bottom, of, read, concepts, plain}
 use Rattle.logic.proofs.Reading.{concepts-push, length-concepts}
+use Rattle.books.specs.declared.faults.Unfit.{Unfit}
 use Rattle.books.specs.declared.faults.Unfit.TheVariants as unfit
+use Rattle.books.specs.Faults.{unfit_number}
+use Rattle.books.specs.Answers.{Judged}
 use Rattle.books.proofs.Replays.{get_or-push_other}
 use Rattle.sealed.specs.declared.frame.Frame.{Frame}
 use Rattle.sealed.specs.declared.faults.CheckFault.{CheckFault}
@@ -23,6 +26,15 @@ use Rattle.sealed.proofs.Sealing.{sealed_passes}
 -- a book with room refuses a record only because it does not fit
 pub with_room : (limit count unfit : ℕ) → count < limit → cond (leb limit count) 1 unfit ≡ unfit
 with_room limit count unfit h = ap (λ b. cond b 1 unfit) (lt-leb limit count h)
+
+-- what is judged of a record, by the result that the check makes of it
+pub judged_ok : {T : Type 0} {n : ℕ} (x : T) (r : Result T Unfit) (m : Result T CheckFault) (P : Unfit → CheckFault → Type 0) → Judged n x r → (y : T) → MatchResult r (λ z. m ≡ Ok z) (λ u. IsErrAnd m (P u)) → m ≡ Ok y → (n ≡ 0) × (y ≡ x)
+judged_ok {T} x (Ok z) m P j y h e = let q : ◌≡◌ {A = Result T CheckFault} (Ok z) (Ok y) = sym h ∙ e in (j.0, sym (let k : z ≡ y = cc in k) ∙ j.1)
+judged_ok x (Err u) m P j y h e = absurd (subst (λ v. IsErrAnd v (P u)) e h)
+
+pub judged_err : {T : Type 0} {n : ℕ} (x : T) (r : Result T Unfit) (m : Result T CheckFault) (P : Unfit → CheckFault → Type 0) → Judged n x r → (f : CheckFault) → MatchResult r (λ z. m ≡ Ok z) (λ u. IsErrAnd m (P u)) → m ≡ Err f → (u : Unfit) × P u f × (n ≡ unfit_number u)
+judged_err x (Ok z) m P j f h e = absurd (false≢true (subst (λ v. is_ok v ≡ true) (sym h ∙ e) refl))
+judged_err x (Err u) m P j f h e = (u, subst (λ v. IsErrAnd v (P u)) e h, j)
 
 -- marks of no node
 pub no_marks : (n : ℕ) → Marks (replicate n true) []

@@ -43,7 +43,7 @@ pub(crate) fn raw_entry_at(bytes: &[u8], i: usize) -> RawEntry
     }
 }
 
-// A struck entry has 16 more in its kind.
+// A struck entry has 16 more in its kind, since that is where the format keeps the mark.
 fn entry_kind(byte: u8) -> u8
     ensures { result ≡ (if ltb byte 16 then byte else byte - 16) }
 {

@@ -19,7 +19,7 @@ fn mark_at(marks: &[bool], i: u16) -> bool
     marks.get(i as usize).copied().unwrap_or(true)
 }
 
-// Whether the nodes a and b are plain, by the marks of all.
+// Whether the nodes a and b are plain, by the marks of all: what books::marked::sides asks a book.
 fn sides(marks: &[bool], a: u16, b: u16) -> Sides
     ensures { (ns : List Node) → Marks marks.now ns → Tells (concepts ns) a b result }
 {
@@ -29,6 +29,7 @@ fn sides(marks: &[bool], a: u16, b: u16) -> Sides
     }
 }
 
+// Apart from the test of an entry, as the tests of both are.
 // Node i of a frame, by the marks of the nodes before it: its mark, or its fault.
 fn check_node(frame: &Frame, i: u16, marks: &[bool]) -> Result<bool, CheckFault>
     requires there { i < frame.now.counts.nodes }
@@ -38,10 +39,8 @@ fn check_node(frame: &Frame, i: u16, marks: &[bool]) -> Result<bool, CheckFault>
     let at = frame.node_place(i);
     let raw = raw_node_at(frame.bytes, at);
     let sides = sides(marks, raw.a, raw.b);
-    match judge_node(i, sides, raw) {
-        Ok(node) => Ok(plain_node(node, sides)),
-        Err(unfit) => Err(CheckFault::BadRecord(unfit, at)),
-    }
+    let node = judge_node(i, sides, raw).map_err(|unfit| CheckFault::BadRecord(unfit, at))?;
+    Ok(plain_node(node, sides))
 }
 
 // A frame whose nodes were checked, with their marks: whether each is plain.
@@ -75,17 +74,16 @@ impl<'a> Marked<'a> {
         let raw = raw_entry_at(self.frame.bytes, at);
         let typical_a = typical_node(self.frame.node_at(raw.a));
         let sides = sides(&self.marks, raw.a, raw.b);
-        match judge_entry(self.frame.counts.nodes, typical_a, sides, raw) {
-            Ok(_) => Ok(()),
-            Err(unfit) => Err(CheckFault::BadRecord(unfit, at)),
-        }
+        let judged = judge_entry(self.frame.counts.nodes, typical_a, sides, raw);
+        judged.map_err(|unfit| CheckFault::BadRecord(unfit, at))?;
+        Ok(())
     }
 
     // The entries, over these nodes.
     fn check_entries(&self) -> Result<(), CheckFault>
         ensures { EntriesChecked self.now.frame result }
     {
-        // by number, as the nodes
+        // tried: `try_for_each`, which takes a lemma of sixty lines where the loop takes an invariant
         for j in 0..self.frame.counts.entries {
             self.check_entry(j)?;
         }

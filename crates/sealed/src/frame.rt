@@ -5,7 +5,7 @@ ghost use Rattle.sealed.specs.Reading.{framed};
 
 use crate::bytes::{line_at, raw_node_at, u16_at, u32_at};
 use crate::counts::Counts;
-use logic::records::{Entry, Line, Node};
+use logic::records::{Line, NO_LINE, Node};
 
 // The counts are within the limits, and the bytes have room for the records and a trailer.
 #[derive(Clone, Copy)]
@@ -77,6 +77,7 @@ impl<'a> Frame<'a> {
     {
         self.bytes.len() - 8 - 7 * self.counts.entries as usize + 7 * j as usize
     }
+
     // Node i, or Absent past the end.
     #[tactic(auto, using(crate::proofs::Framing::frame_node, crate::proofs::Framing::frame_node_past))]
     pub(crate) fn node_at(&self, i: u16) -> Node
@@ -94,10 +95,7 @@ impl<'a> Frame<'a> {
         ensures { result ≡ line_at (book_in self.now) j }
     {
         if j >= self.counts.entries {
-            return Line {
-                entry: Entry::Absent,
-                live: false,
-            };
+            return NO_LINE;
         }
         line_at(self.bytes, self.entry_place(j))
     }

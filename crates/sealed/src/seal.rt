@@ -10,7 +10,8 @@ use books::book::ReadableBook;
 use logic::records::{Line, Node, RawEntry, RawNode};
 use logic::refusal::BadLength;
 
-// A node is 5 bytes.
+// A node is 5 bytes. This and the next two are no conversions by From: node and line are of another crate, and the
+// trailer is written as they are.
 fn node_bytes(node: Node) -> [u8; 5]
     ensures { result ≡ node_bytes node }
 {
@@ -20,7 +21,7 @@ fn node_bytes(node: Node) -> [u8; 5]
     [raw.kind, a, aa, b, bb]
 }
 
-// An entry is 7 bytes; its kind has 16 more where it is struck.
+// An entry is 7 bytes; its kind has 16 more where it is struck, as the format has it.
 fn line_bytes(line: Line) -> [u8; 7]
     requires { entry_known line.entry ≡ true }
     ensures { result ≡ line_bytes line }
@@ -43,7 +44,8 @@ fn trailer_bytes(counts: Counts) -> [u8; 8]
     [n, nn, m, mm, d, dd, ddd, dddd]
 }
 
-// Writes bytes at an offset, leaves the rest, and answers where they end.
+// Writes bytes at an offset, leaves the rest, and answers where they end, since the rest of the buffer is the caller's.
+// One line of std, so no cursor as for the line of a verdict.
 fn put(out: &mut [u8], at: usize, bytes: &[u8]) -> usize
     requires { at + length bytes.now ≤ length out.old }
     ensures end { result ≡ at + length bytes.now }
@@ -66,7 +68,8 @@ pub fn seal<B: ReadableBook>(book: &B, out: &mut [u8]) -> Result<usize, SealFaul
     if out.len() < counts.records_length() as usize + 8 {
         return Err(BadLength(out.len()));
     }
-    // by number, since that is how a book is asked
+    // Two loops, by number, since that is how a book is asked. Tried: one function over a closure with the record's
+    // size as a const parameter, which the borrow checker does not cover.
     let mut at = 0;
     for i in 0..counts.nodes {
         at = put(out, at, &node_bytes(book.node_at(i)));

@@ -12,6 +12,7 @@ use std::test::Fail;
 
 fn same_book<A: ReadableBook, B: ReadableBook>(rt: &impl Abort, a: &A, b: &B) {
     assert_eq!(rt; a.node_count(), b.node_count());
+    // by number, in both loops: a book is asked by number
     for i in 0..a.node_count() {
         assert!(rt;
             RawNode::from(a.node_at(i)) == RawNode::from(b.node_at(i)),
@@ -72,6 +73,7 @@ fn the_sample_book_has_64_bytes(rt: HostRuntime) -> Result<(), Fail> {
 #[test]
 fn the_largest_book_has_4360_bytes(rt: HostRuntime) -> Result<(), Fail> {
     let mut book: SlotTable = EditableBook::new(rt.alloc())?;
+    // by number, as records are offered
     for _ in 0..512u16 {
         assert!(rt;
             book.node(RawNode {

@@ -7,7 +7,8 @@ use orders::pairs::Pairs;
 use orders::ranks::Ranks;
 use std::io;
 
-// The elements of an order, and each pair of which one is better. An order is asked by number.
+// The elements of an order, and each pair of which one is better. Loops: an order is asked
+// by number, and each line goes to the runtime's handle, which may refuse it.
 fn print_order<O: Order>(rt: &impl Print, order: &O) -> io::Result<()> {
     println!(rt; "granted, elements {}", order.size())?;
     for x in 0..order.size() {

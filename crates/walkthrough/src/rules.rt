@@ -12,17 +12,17 @@ fn text_of(texts: &[String], i: u16) -> &str {
     texts.get(i as usize).map_or("?", String::as_str)
 }
 
-// A node, by the texts of those before it.
+// A node or an entry, by the texts of the nodes before it.
 #[derive(Drop)]
-struct Concept<'a> {
-    node: Node,
+struct Shown<'a, T> {
+    what: T,
     texts: &'a [String],
 }
 
-impl fmt::Display for Concept<'_> {
+impl fmt::Display for Shown<'_, Node> {
     fn fmt<W: fmt::Write>(&self, f: &mut fmt::Formatter<W>) -> fmt::Result {
         let text = |c: u16| text_of(self.texts, c);
-        match self.node {
+        match self.what {
             Node::Top => write!(f, "top"),
             Node::Bottom => write!(f, "bottom"),
             Node::Name(i) => match NAMES.get(i as usize) {
@@ -42,17 +42,10 @@ impl fmt::Display for Concept<'_> {
     }
 }
 
-// An entry, by the texts of the nodes.
-#[derive(Drop)]
-struct Rule<'a> {
-    entry: Entry,
-    texts: &'a [String],
-}
-
-impl fmt::Display for Rule<'_> {
+impl fmt::Display for Shown<'_, Entry> {
     fn fmt<W: fmt::Write>(&self, f: &mut fmt::Formatter<W>) -> fmt::Result {
         let text = |c: u16| text_of(self.texts, c);
-        match self.entry {
+        match self.what {
             Entry::Inclusion(c, d) => write!(f, "{} in {}", text(c), text(d)),
             Entry::Fact(x, c) => write!(f, "individual {x} holds {}", text(c)),
             Entry::RoleFact(r, x, y) => write!(f, "role {r} leads from individual {x} to {y}"),
@@ -65,9 +58,8 @@ impl fmt::Display for Rule<'_> {
 fn concepts<B: ReadableBook>(heap: Global, book: &B) -> Result<Vec<String>, AllocError> {
     let mut texts = Vec::new(heap);
     for i in 0..book.node_count() {
-        let node = book.node_at(i);
-        let text = Concept {
-            node,
+        let text = Shown {
+            what: book.node_at(i),
             texts: texts.as_slice(),
         }
         .to_string(heap)?;
@@ -76,13 +68,14 @@ fn concepts<B: ReadableBook>(heap: Global, book: &B) -> Result<Vec<String>, Allo
     Ok(texts)
 }
 
+// The rules. A loop: each line goes to the runtime's handle, which may refuse it.
 pub(crate) fn print<B: ReadableBook>(rt: &HostRuntime, book: &B) -> anyhow::Result<()> {
     let texts = concepts(rt.alloc(), book)?;
     println!(rt; "The book has {} nodes and these rules.", book.node_count())?;
     for i in 0..book.entry_count() {
         let Line { entry, live } = book.entry_at(i);
-        let rule = Rule {
-            entry,
+        let rule = Shown {
+            what: entry,
             texts: texts.as_slice(),
         };
         let mark = if live { "" } else { " (struck)" };

@@ -5,7 +5,7 @@ use sealed::seal::seal;
 use sealed::sealed_book::SealedBook;
 use std::io;
 
-// The last eight bytes, in hex.
+// The last eight bytes, in hex. A loop: each goes to the runtime's handle, which may refuse it.
 fn print_trailer(rt: &impl Print, bytes: &[u8]) -> io::Result<()> {
     for byte in &bytes[bytes.len().saturating_sub(8)..] {
         print!(rt; " {byte:02x}")?;
