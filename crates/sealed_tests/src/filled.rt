@@ -6,7 +6,7 @@ use books::write::write_all;
 use std::process::Abort;
 use std::test::Fail;
 
-pub fn sample_table(rt: &(impl Abort + AllocGlobal)) -> Result<SlotTable, Fail> {
+pub(crate) fn sample_table(rt: &(impl Abort + AllocGlobal)) -> Result<SlotTable, Fail> {
     let mut book: SlotTable = EditableBook::new(rt.alloc())?;
     assert!(rt; write_all(&mut book, &sample::NODES).is_ok());
     assert!(rt; write_all(&mut book, &sample::ENTRIES).is_ok());
