@@ -3,14 +3,18 @@
 
 mod calls;
 mod preferences;
+mod refuting;
 mod rules;
 mod sealing;
+mod showing;
 
 use books::book::EditableBook;
 use books::journal::Journal;
 use books::sample;
 use books::slot_table::SlotTable;
+use books::write::write_all;
 use logic::records::Node;
+use refuting::Room;
 
 // The sample book is written, sealed and opened; then calls that do not fit are refused.
 fn write_a_book<B: EditableBook>(rt: &HostRuntime, book: &mut B) -> anyhow::Result<()> {
@@ -37,6 +41,35 @@ fn refuse_calls<B: EditableBook>(rt: &HostRuntime, book: &mut B) -> anyhow::Resu
     sealing::seal_and_open(rt, book)
 }
 
+// Hand-ins are judged against the sample book: models, a wrong tableau, and with one fact more a right one.
+fn judge_hand_ins(rt: &HostRuntime) -> anyhow::Result<()> {
+    let mut book: SlotTable = EditableBook::new(rt.alloc())?;
+    let _ = write_all(&mut book, &sample::NODES);
+    let _ = write_all(&mut book, &sample::ENTRIES);
+    rules::print(rt, &book)?;
+    showing::show_models(rt, &book)?;
+    println!(rt; "A tableau with a clash of two nodes at its last step.")?;
+    let room = Room {
+        constraints: 8,
+        edges: 1,
+        splits: 2,
+    };
+    refuting::refute(rt, &book, &sample::WRONG_STEPS, room)?;
+    println!(rt; "Individual 0 is a typical release too.")?;
+    calls::enter(rt, &mut book, sample::QUESTION)?;
+    let room = Room {
+        constraints: 5,
+        edges: 1,
+        splits: 1,
+    };
+    refuting::refute(rt, &book, &sample::REFUTATION, room)?;
+    let short = Room {
+        constraints: 4,
+        ..room
+    };
+    refuting::refute(rt, &book, &sample::REFUTATION, short)
+}
+
 fn walk(rt: &HostRuntime) -> anyhow::Result<()> {
     println!(rt; "== A rule book in a slot table")?;
     let mut table: SlotTable = EditableBook::new(rt.alloc())?;
@@ -47,7 +80,8 @@ fn walk(rt: &HostRuntime) -> anyhow::Result<()> {
     println!(rt; "== Orders")?;
     println!(rt; "Two elements: 1 is better than 0, or each is better than the other.")?;
     preferences::fill_orders(rt)?;
-    Ok(())
+    println!(rt; "== Hand-ins are judged")?;
+    judge_hand_ins(rt)
 }
 
 fn main(rt: HostRuntime) -> anyhow::Result<()> {

@@ -1,0 +1,128 @@
+// A tableau is handed in: each step that is taken, and the verdict.
+use crate::calls;
+use books::book::ReadableBook;
+use judge::effect::Effect;
+use judge::lists::Blank;
+use judge::refute::refute_watched;
+use judge::watch::Watch;
+use judge::working::Split;
+use logic::tableau::{Constraint, Edge, Form, Step};
+use std::{fmt, io};
+
+// How long the lists of constraints, edges and pending splits are.
+#[derive(Clone, Copy)]
+pub(crate) struct Room {
+    pub(crate) constraints: usize,
+    pub(crate) edges: usize,
+    pub(crate) splits: usize,
+}
+
+// A part of a tableau in words.
+#[derive(Clone, Copy)]
+struct Words<T>(T);
+
+impl fmt::Display for Words<Form> {
+    fn fmt<W: fmt::Write>(&self, f: &mut fmt::Formatter<W>) -> fmt::Result {
+        match self.0 {
+            Form::Holds => write!(f, "holds"),
+            Form::Fails => write!(f, "fails"),
+            Form::Bars => write!(f, "bars"),
+            Form::Admits => write!(f, "admits"),
+        }
+    }
+}
+
+impl fmt::Display for Words<Constraint> {
+    fn fmt<W: fmt::Write>(&self, f: &mut fmt::Formatter<W>) -> fmt::Result {
+        let Constraint { label, form, node } = self.0;
+        write!(f, "{label} {} node {node}", Words(form))
+    }
+}
+
+impl fmt::Display for Words<Edge> {
+    fn fmt<W: fmt::Write>(&self, f: &mut fmt::Formatter<W>) -> fmt::Result {
+        let Edge { from, role, to } = self.0;
+        write!(f, "role {role} from {from} to {to}")
+    }
+}
+
+impl fmt::Display for Words<Effect> {
+    fn fmt<W: fmt::Write>(&self, f: &mut fmt::Formatter<W>) -> fmt::Result {
+        match self.0 {
+            Effect::Adds(c) => write!(f, "{}", Words(c)),
+            Effect::AddsTwo(c, d) => write!(f, "{}, {}", Words(c), Words(d)),
+            Effect::Links(e) => write!(f, "{}", Words(e)),
+            Effect::Grows(e, c) => write!(f, "{}, {}", Words(e), Words(c)),
+            Effect::GrowsTwo(e, c, d) => write!(f, "{}, {}, {}", Words(e), Words(c), Words(d)),
+            Effect::Splits(c, d) => write!(f, "split, {}, {}", Words(c), Words(d)),
+            Effect::Closes => write!(f, "closed"),
+        }
+    }
+}
+
+// Prints each step, and keeps the first failure to print.
+#[derive(Drop)]
+struct Printer<'a, P> {
+    rt: &'a P,
+    pending: usize,
+    printed: io::Result<()>,
+}
+
+impl<P: Print> Printer<'_, P> {
+    // A step, what it did, and how many splits are then pending, where it opened or closed one.
+    fn print(&self, step: Step, effect: Effect, pending: usize) -> io::Result<()> {
+        let Step { op, a, b } = step;
+        print!(self.rt; "    step {op} {a} {b}: {}", Words(effect))?;
+        if pending == self.pending {
+            println!(self.rt; "")
+        } else {
+            println!(self.rt; "; splits pending {pending}")
+        }
+    }
+}
+
+impl<P: Print> Watch for Printer<'_, P> {
+    fn taken(&mut self, step: Step, effect: Effect, pending: usize) {
+        if self.printed.is_ok() {
+            self.printed = self.print(step, effect, pending);
+        }
+        self.pending = pending;
+    }
+}
+
+// Refutes the book by the steps, in lists that are so long.
+pub(crate) fn refute<B: ReadableBook>(
+    rt: &HostRuntime,
+    book: &B,
+    steps: &[u8],
+    room: Room,
+) -> anyhow::Result<()> {
+    let heap = rt.alloc();
+    let mut constraints = vec![in heap; Constraint::blank(); room.constraints]?;
+    let mut edges = vec![in heap; Edge::blank(); room.edges]?;
+    let mut splits = vec![in heap; Split::blank(); room.splits]?;
+    println!(rt;
+        "  refute, constraints {} edges {} splits {}:",
+        room.constraints, room.edges, room.splits
+    )?;
+    let mut printer = Printer {
+        rt,
+        pending: 0,
+        printed: Ok(()),
+    };
+    let verdict = refute_watched(
+        book,
+        steps,
+        &mut constraints,
+        &mut edges,
+        &mut splits,
+        &mut printer,
+    );
+    printer.printed?;
+    print!(rt; "    ")?;
+    match verdict {
+        Ok(used) => println!(rt; "closed, entries used {}", used.count())?,
+        Err(fault) => calls::print_refusal(rt, &fault)?,
+    }
+    Ok(())
+}
