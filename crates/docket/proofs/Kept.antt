@@ -1,18 +1,17 @@
 -- What every run keeps. Assumes nothing.
-use Rattle.std.proofs.Common.{◌≡◌, ℕ, Bool, true, List, [], ◌∷◌, ◌++◌, Ok, Err, sym, refl, ap, ◌∙◌, subst}
+use Rattle.std.proofs.Common.{◌≡◌, ℕ, Bool, List, [], ◌∷◌, ◌++◌, Ok, Err, sym, refl, ap, ◌∙◌, subst}
 use Rattle.logic.specs.declared.records.Line.{Line}
 use Rattle.logic.specs.declared.tableau.Step.{Step}
 use Rattle.logic.specs.Written.{node_of, entry_of}
 use Rattle.logic.specs.Books.{Book}
-use Rattle.logic.specs.Lawful.{Lawful}
 use Rattle.logic.specs.Limits.{Lengths}
-use Rattle.logic.specs.Tableaux.{writing, names}
+use Rattle.logic.specs.Tableaux.{names}
 use Rattle.logic.proofs.NamedLive.{named_live}
-use Rattle.logic.proofs.Soundness.{soundness}
 use Rattle.models.specs.Interpretations.{said}
 use Rattle.models.specs.Meanings.{meant}
-use Rattle.judge.specs.Steps.{decoded}
-use Rattle.judge.specs.Refutations.{Refutation}
+use Rattle.judge.specs.declared.used.Used.{Used}
+use Rattle.judge.specs.Members.{member}
+use Rattle.judge.specs.Refutations.{RefuteAnswer}
 use Rattle.docket.specs.Events.{Event, Event.node, Event.enter, Event.strike, Event.refute, Event.show, Event.standing}
 use Rattle.docket.specs.Runs.{State, Moves, Moved, Moved.none, Moved.then, New, Run}
 use Rattle.docket.specs.Histories.{last_steps}
@@ -25,12 +24,13 @@ pub record KeptRun (h : List Event) (s : State) : Type 0 where
   pub used : (i : ℕ) → s.used i ≡ names (last_steps h) i
 
 -- an accepted tableau names live entries that no model makes true
-pub refutation_core : (bk : Book) (ls : Lengths) (bs : List ℕ) (used : ℕ → Bool) → Lawful bk → Refutation bk ls bs → ((i : ℕ) → used i ≡ names (decoded bs) i) → Core bk used
-refutation_core bk ls bs used lawful r named =
-    let same : (i : ℕ) → used i ≡ true → names (writing r.tableau) i ≡ true = λ i u. ap (λ (ss : List Step). names ss i) r.written ∙ sym (named i) ∙ u in
+pub refutation_core : (bk : Book) (ls : Lengths) (bs : List ℕ) (u : Used) → RefuteAnswer bk ls bs (Ok u) → Core bk (member u)
+refutation_core bk ls bs u a =
+    let shown = a.accepted u refl in
+    let r = shown.refutation in
     record {
-      live = λ i u. ap (λ (l : Line). l.live) (named_live bk r.tableau i (same i u)).1;
-      none = λ m h. soundness bk lawful.well_formed r.tableau m (λ i n. h i (named i ∙ ap (λ (ss : List Step). names ss i) (sym r.written) ∙ n));
+      live = λ i m. ap (λ (l : Line). l.live) (named_live bk r.tableau i (ap (λ (ss : List Step). names ss i) r.written ∙ sym (shown.named i) ∙ m)).1;
+      none = λ m h. shown.sound m (λ i n. h i (shown.named i ∙ n));
     }
 
 kept_new : (s : State) → New s → KeptRun [] s
@@ -74,12 +74,12 @@ kept_move (strike j (Err f)) h s t k (e, is, moved, kept) = record {
   standing = stay _ _ _ _ _ _ moved.1 kept.standing kept.used k.standing;
   used = same_used s t (last_steps h) kept.used k.used;
 }
-kept_move (refute bs ls (Ok n)) h s t k (closed, number, same, next, used) = record {
+kept_move (refute bs ls (Ok n)) h s t k (u, a, number, same, next, used) = record {
   book = quiet (refute bs ls (Ok n)) h _ _ (λ z. z) (λ i z. z) refl refl same k.book;
-  standing = stay _ _ _ _ _ _ same refl refl (standing_refute s.book s.standing t.standing s.used t.used (refutation_core s.book ls bs t.used k.book.lawful closed used) next k.standing);
-  used = used;
+  standing = stay _ _ _ _ _ _ same refl used (standing_refute s.book s.standing t.standing s.used (member u) (refutation_core s.book ls bs u a) next k.standing);
+  used = λ i. ap (λ (f : ℕ → Bool). f i) used ∙ (a.accepted u refl).named i;
 }
-kept_move (refute bs ls (Err f)) h s t k (e, is, why, open-yet, same, kept) = record {
+kept_move (refute bs ls (Err f)) h s t k (e, is, why, same, kept) = record {
   book = quiet (refute bs ls (Err f)) h _ _ (λ z. z) (λ i z. z) refl refl same k.book;
   standing = stay _ _ _ _ _ _ same kept.standing kept.used k.standing;
   used = same_used s t (last_steps h) kept.used k.used;

@@ -16,7 +16,7 @@ use Rattle.docket.specs.Histories.{last_steps, Tabled, Stood, Stood.opened, Stoo
 use Rattle.docket.specs.Laws.{Answered, Closing, Modelling, StepLaw, DocketLaw, ModelsHanded}
 use Rattle.docket.proofs.Table.{sure_entered, sure_struck, sure_closed, sure_satisfied, closed_next, satisfied_next}
 use Rattle.docket.proofs.KeptStanding.{core_no_model, not_shown, not_refuted}
-use Rattle.docket.proofs.Kept.{KeptRun, refutation_core, kept_run}
+use Rattle.docket.proofs.Kept.{KeptRun, kept_run}
 
 answered : (e : Event) (s t : State) → Moves e s t → Answered s.book s.standing e
 answered (node raw (Ok i)) s t (moved, kept) = (moved.0, moved.1)
@@ -25,8 +25,11 @@ answered (enter raw (Ok i)) s t (moved, next, used) = (moved.0, moved.1)
 answered (enter raw (Err f)) s t (e, is, moved, kept) = (e, is, moved.0)
 answered (strike i (Ok u)) s t (moved, next, used) = moved.0
 answered (strike i (Err f)) s t (e, is, moved, kept) = (e, is, moved.0.0, moved.0.2)
-answered (refute bs ls (Ok n)) s t (closed, number, same, next, used) = (closed, number)
-answered (refute bs ls (Err f)) s t (e, is, why, open-yet, same, kept) = (e, is, why, open-yet)
+answered (refute bs ls (Ok n)) s t (u, a, number, same, next, used) =
+    let shown = a.accepted u refl in
+    (shown.refutation, number ∙ shown.count, λ g why. cc (a.refuses g why))
+answered (refute bs ls (Err f)) s t (e, is, a, same, kept) =
+    (e, is, a.refused e refl, λ r. cc (a.accepts r).1, λ g why. cc (a.refuses g why))
 answered (show bs o list (Ok n)) s t (shown, same, next, used) = shown
 answered (show bs o list (Err f)) s t (e, is, why, same, kept) = (e, is, why)
 answered (standing r) s t (is, same, kept) = is
@@ -39,10 +42,9 @@ tabled (enter raw (Err f)) h s t k (e, is, moved, kept) = kept.standing
 tabled (strike i (Ok u)) h s t k (moved, next, used) =
     subst (λ b. Next ⊥ s.standing (struck_as b) t.standing) (k.used i) (sure_struck (s.used i) s.standing t.standing next)
 tabled (strike i (Err f)) h s t k (e, is, moved, kept) = kept.standing
-tabled (refute bs ls (Ok n)) h s t k (closed, number, same, next, used) =
-    let core = refutation_core s.book ls bs t.used k.book.lawful closed used in
-    sure_closed s.standing t.standing (not_shown s.book s.standing s.used (core_no_model s.book t.used core) k.standing) next
-tabled (refute bs ls (Err f)) h s t k (e, is, why, open-yet, same, kept) = kept.standing
+tabled (refute bs ls (Ok n)) h s t k (u, a, number, same, next, used) =
+    sure_closed s.standing t.standing (not_shown s.book s.standing s.used (a.accepted u refl).no_model k.standing) next
+tabled (refute bs ls (Err f)) h s t k (e, is, why, same, kept) = kept.standing
 tabled (show bs o list (Ok n)) h s t k (shown, same, next, used) =
     let a = shown.answer in
     sure_satisfied s.standing t.standing (not_refuted s.book s.standing s.used (meant (said bs) o a.0.1) (a.3 a.0.1).0 k.standing) next
@@ -144,4 +146,4 @@ pub models_handed : ModelsHanded
 models_handed m few o strict better =
     let e = (models_encoded m few).0 in
     let f : Fits (said (model_bytes m)) o = record { valid = e.valid; strict = strict; sized = better.size ∙ sym e.size } in
-    (e.whole, (f, e.means o f better))
+    (e.bytes, (e.whole, (f, e.means o f better)))

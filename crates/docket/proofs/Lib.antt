@@ -10,3 +10,5 @@ pub mod KeptStanding
 pub mod Kept
 -- the law of all runs
 pub mod Law
+-- a call as one event of a run
+pub mod Calls

@@ -8,8 +8,8 @@ use Rattle.orders.specs.Masks.{Preference}
 use Rattle.docket.specs.declared.fault.Fault.{Fault}
 use Rattle.docket.specs.declared.standing.Standing.{Standing}
 
--- Refute is handed bytes and three lists, of these lengths; it leaves them blank. Show is handed bytes, an
--- order, by what it means, and a list, by what it holds afterwards; its length stays.
+-- Refute is handed bytes and three lists, of these lengths. Show is handed bytes, an order, by what it means,
+-- and a list, by what it holds afterwards; its length stays.
 pub data Event : Type 0 where
   node : RawNode → Result ℕ Fault → Event
   enter : RawEntry → Result ℕ Fault → Event

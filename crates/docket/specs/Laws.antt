@@ -28,7 +28,7 @@ use Rattle.books.specs.Faults.{strike_fault_place}
 use Rattle.books.specs.Answers.{nodes, entries, Refused, NotToStrike}
 use Rattle.judge.specs.declared.faults.RefuteFault.{RefuteFault}
 use Rattle.judge.specs.declared.show_faults.ShowFault.{ShowFault}
-use Rattle.judge.specs.Steps.{decoded, encoded}
+use Rattle.judge.specs.Steps.{decoded, encoded, Bytes}
 use Rattle.judge.specs.Reasons.{Reason}
 use Rattle.judge.specs.Refutations.{Refutation}
 use Rattle.judge.specs.Shows.{ShowPromise}
@@ -57,8 +57,8 @@ pub record Law (h : List Event) (s : State) : Type 0 where
   pub shown : s.standing ≡ Shown → (m : Model) × Satisfies m s.book
 
 -- What a call answers over the book bk, where the docket stands at s: node, enter and strike refuse exactly by
--- the table of refusals; refute answers how many entries were used, or the judge's exact fault; show answers
--- the number of elements, or the judge's exact fault.
+-- the table of refusals; refute answers how many entries were used, or the judge's exact fault, the only one that
+-- has a reason; show answers the number of elements, or the judge's exact fault.
 abbrev pub Answered : Book → Standing → Event → Type 0
 Answered bk s (node raw (Ok i)) = (node_refusal bk raw ≡ 0) × (i ≡ length bk.nodes)
 Answered bk s (node raw (Err f)) = (e : OfferFault RawNode) × (f ≡ fault.Node e) × Refused nodes bk raw e
@@ -66,9 +66,11 @@ Answered bk s (enter raw (Ok i)) = (entry_refusal bk raw ≡ 0) × (i ≡ length
 Answered bk s (enter raw (Err f)) = (e : OfferFault RawEntry) × (f ≡ fault.Enter e) × Refused entries bk raw e
 Answered bk s (strike i (Ok u)) = (line_at bk i).live ≡ true
 Answered bk s (strike i (Err f)) = (e : StrikeFault) × (f ≡ fault.Strike e) × NotToStrike bk i e × (strike_fault_place e ≡ i)
-Answered bk s (refute bs ls (Ok n)) = Refutation bk ls bs × (n ≡ used (decoded bs))
+Answered bk s (refute bs ls (Ok n)) =
+    Refutation bk ls bs × (n ≡ used (decoded bs)) × ((g : RefuteFault) → Reason bk ls bs g → ⊥)
 Answered bk s (refute bs ls (Err f)) =
     (e : RefuteFault) × (f ≡ fault.Refute e) × Reason bk ls bs e × (Refutation bk ls bs → ⊥)
+    × ((g : RefuteFault) → Reason bk ls bs g → g ≡ e)
 Answered bk s (show bs o list (Ok n)) = ShowPromise bk bs o (length list) list (Ok n)
 Answered bk s (show bs o list (Err f)) = (e : ShowFault) × (f ≡ fault.Show e) × ShowPromise bk bs o (length list) list (Err e)
 Answered bk s (standing r) = r ≡ s
@@ -120,11 +122,13 @@ DocketLaw = (h : List Event) (s : State) → Run h s → LawfulRun h s
 abbrev pub RunsExtend : Type 0
 RunsExtend = (h es : List Event) (s t : State) → Run h s → Moved es s t → Run (es ++ h) t
 
--- every model of at most 32 elements can be handed over, with any strict order that is its "better"
+-- every model of at most 32 elements can be handed over as bytes, with any strict order that is its "better"
 abbrev pub ModelsHanded : Type 0
-ModelsHanded = (m : Model) → m.size ≤ 32 → (o : Preference) → Strict o → MeansBetter m o → Handed m (model_bytes m) o
+ModelsHanded =
+    (m : Model) → m.size ≤ 32 → (o : Preference) → Strict o → MeansBetter m o → Bytes (model_bytes m) × Handed m (model_bytes m) o
 
--- every closed tableau within the limits that fits the lists can be handed over
+-- every closed tableau within the limits that fits the lists can be handed over as bytes
 abbrev pub TableauxHanded : Type 0
 TableauxHanded =
-    (bk : Book) → Lawful bk → (ls : Lengths) (t : Closed bk start) → WithinLimits t → limits.Fits ls t → Refutation bk ls (encoded (writing t))
+    (bk : Book) → Lawful bk → (ls : Lengths) (t : Closed bk start) → WithinLimits t → limits.Fits ls t
+    → Bytes (encoded (writing t)) × Refutation bk ls (encoded (writing t))

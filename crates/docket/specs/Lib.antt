@@ -10,3 +10,7 @@ pub mod Runs
 pub mod Histories
 -- the law of all runs
 pub mod Laws
+-- what a docket is to its callers
+pub mod Dockets
+-- which calls a history has
+pub mod Plays

@@ -4,7 +4,6 @@
 -- Assumes nothing.
 use Rattle.std.specs.Prelude.{◌≡◌, ℕ, Bool, false, List, [], ◌∷◌, length, Ok, Err}
 use Rattle.logic.specs.Books.{Book, empty}
-use Rattle.logic.specs.Tableaux.{names, used}
 use Rattle.logic.specs.declared.records.RawNode.{RawNode}
 use Rattle.logic.specs.declared.records.RawEntry.{RawEntry}
 use Rattle.books.specs.declared.faults.OfferFault.{OfferFault}
@@ -12,9 +11,9 @@ use Rattle.books.specs.declared.faults.StrikeFault.{StrikeFault}
 use Rattle.books.specs.Answers.{nodes, entries, OfferAnswer, StrikeAnswer}
 use Rattle.judge.specs.declared.faults.RefuteFault.{RefuteFault}
 use Rattle.judge.specs.declared.show_faults.ShowFault.{ShowFault}
-use Rattle.judge.specs.Steps.{decoded}
-use Rattle.judge.specs.Reasons.{Reason}
-use Rattle.judge.specs.Refutations.{Refutation}
+use Rattle.judge.specs.declared.used.Used.{Used}
+use Rattle.judge.specs.Members.{member, members}
+use Rattle.judge.specs.Refutations.{RefuteAnswer}
 use Rattle.judge.specs.Shows.{ShowPromise}
 use Rattle.docket.specs.declared.fault.Fault.TheVariants as fault
 use Rattle.docket.specs.declared.standing.Standing.{Standing}
@@ -35,7 +34,8 @@ pub record Kept (s t : State) : Type 0 where
   pub used : t.used ≡ s.used
 
 -- A granted call moves the book by what it was handed and the standing by the table, and an accepted tableau
--- becomes the last one. A refused call changes nothing, and its fault holds that of the lower call whole.
+-- becomes the last one: OfferAnswer and StrikeAnswer are what a book answers, RefuteAnswer and ShowPromise what
+-- the judge does. A refused call changes nothing, and its fault holds that of the lower call whole.
 -- What would stand in a cell that does not occur is left open here; the law rules it out.
 abbrev pub Moves : Event → State → State → Type 0
 Moves (node raw (Ok i)) s t = OfferAnswer nodes s.book t.book raw (Ok i) × Kept s t
@@ -50,11 +50,10 @@ Moves (strike i (Ok u)) s t =
 Moves (strike i (Err f)) s t =
     (e : StrikeFault) × (f ≡ fault.Strike e) × StrikeAnswer s.book t.book i (Err e) × Kept s t
 Moves (refute bs ls (Ok n)) s t =
-    Refutation s.book ls bs × (n ≡ used (decoded bs)) × (t.book ≡ s.book)
-    × Next (Unit {0}) s.standing Closed t.standing × ((i : ℕ) → t.used i ≡ names (decoded bs) i)
+    (u : Used) × RefuteAnswer s.book ls bs (Ok u) × (n ≡ members u) × (t.book ≡ s.book)
+    × Next (Unit {0}) s.standing Closed t.standing × (t.used ≡ member u)
 Moves (refute bs ls (Err f)) s t =
-    (e : RefuteFault) × (f ≡ fault.Refute e) × Reason s.book ls bs e × (Refutation s.book ls bs → ⊥)
-    × (t.book ≡ s.book) × Kept s t
+    (e : RefuteFault) × (f ≡ fault.Refute e) × RefuteAnswer s.book ls bs (Err e) × (t.book ≡ s.book) × Kept s t
 Moves (show bs o list (Ok n)) s t =
     ShowPromise s.book bs o (length list) list (Ok n) × (t.book ≡ s.book)
     × Next (Unit {0}) s.standing Satisfied t.standing × (t.used ≡ s.used)

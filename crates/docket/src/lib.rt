@@ -1,7 +1,8 @@
-// What a docket is, a working book with a standing that is always true: its calls as events, its runs, and
-// the law of all runs.
+// The docket: a working book with a standing that is always true.
 #![tactic(auto)]
 
+pub mod docket;
 pub mod fault;
 pub mod laws;
+pub mod play;
 pub mod standing;

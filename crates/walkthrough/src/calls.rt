@@ -1,5 +1,4 @@
-// Each call of a book, printed with what it was handed and what it answered.
-use books::book::EditableBook;
+// A call of a book or of a docket, printed with what it was handed and what it answered.
 use logic::records::{RawEntry, RawNode};
 use logic::refusal::Refusal;
 use std::io;
@@ -9,32 +8,40 @@ pub(crate) fn print_refusal<F: Refusal>(rt: &impl Print, fault: &F) -> io::Resul
 }
 
 // Each call prints what it granted in words of its own.
-pub(crate) fn node<B: EditableBook>(rt: &impl Print, book: &mut B, raw: RawNode) -> io::Result<()> {
+pub(crate) fn node<F: Refusal + Drop>(
+    rt: &impl Print,
+    raw: RawNode,
+    answer: Result<u16, F>,
+) -> io::Result<()> {
     print!(rt; "  node, kind {} a {} b {}: ", raw.kind, raw.a, raw.b)?;
-    match book.node(raw) {
+    match answer {
         Ok(i) => println!(rt; "granted, node {i}"),
         Err(fault) => print_refusal(rt, &fault),
     }
 }
 
-pub(crate) fn enter<B: EditableBook>(
+pub(crate) fn enter<F: Refusal + Drop>(
     rt: &impl Print,
-    book: &mut B,
     raw: RawEntry,
+    answer: Result<u16, F>,
 ) -> io::Result<()> {
     print!(rt;
         "  enter, kind {} a {} b {} c {}: ",
         raw.kind, raw.a, raw.b, raw.c
     )?;
-    match book.enter(raw) {
+    match answer {
         Ok(i) => println!(rt; "granted, entry {i}"),
         Err(fault) => print_refusal(rt, &fault),
     }
 }
 
-pub(crate) fn strike<B: EditableBook>(rt: &impl Print, book: &mut B, i: u16) -> io::Result<()> {
+pub(crate) fn strike<F: Refusal + Drop>(
+    rt: &impl Print,
+    i: u16,
+    answer: Result<(), F>,
+) -> io::Result<()> {
     print!(rt; "  strike {i}: ")?;
-    match book.strike(i) {
+    match answer {
         Ok(()) => println!(rt; "granted"),
         Err(fault) => print_refusal(rt, &fault),
     }

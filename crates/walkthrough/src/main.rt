@@ -7,12 +7,14 @@ mod refuting;
 mod rules;
 mod sealing;
 mod showing;
+mod standing;
 
 use books::book::EditableBook;
 use books::journal::Journal;
 use books::sample;
 use books::slot_table::SlotTable;
 use books::write::write_all;
+use docket::docket::Docket;
 use logic::records::Node;
 use refuting::Room;
 
@@ -20,10 +22,10 @@ use refuting::Room;
 fn write_a_book<B: EditableBook>(rt: &HostRuntime, book: &mut B) -> anyhow::Result<()> {
     println!(rt; "The sample book is written, call by call.")?;
     for raw in &sample::NODES {
-        calls::node(rt, book, *raw)?;
+        calls::node(rt, *raw, book.node(*raw))?;
     }
     for raw in &sample::ENTRIES {
-        calls::enter(rt, book, *raw)?;
+        calls::enter(rt, *raw, book.enter(*raw))?;
     }
     rules::print(rt, book)?;
     sealing::seal_and_open(rt, book)?;
@@ -33,10 +35,11 @@ fn write_a_book<B: EditableBook>(rt: &HostRuntime, book: &mut B) -> anyhow::Resu
 // T of node 3, which is T(release) already; a strike, the same again, and one of no entry.
 fn refuse_calls<B: EditableBook>(rt: &HostRuntime, book: &mut B) -> anyhow::Result<()> {
     println!(rt; "T of T(release) is refused, and an entry is struck only once.")?;
-    calls::node(rt, book, Node::Typical(3).into())?;
-    calls::strike(rt, book, 0)?;
-    calls::strike(rt, book, 0)?;
-    calls::strike(rt, book, 3)?;
+    let typical = Node::Typical(3).into();
+    calls::node(rt, typical, book.node(typical))?;
+    for i in [0, 0, 3] {
+        calls::strike(rt, i, book.strike(i))?;
+    }
     rules::print(rt, book)?;
     sealing::seal_and_open(rt, book)
 }
@@ -56,7 +59,7 @@ fn judge_hand_ins(rt: &HostRuntime) -> anyhow::Result<()> {
     };
     refuting::refute(rt, &book, &sample::WRONG_STEPS, room)?;
     println!(rt; "Individual 0 is a typical release too.")?;
-    calls::enter(rt, &mut book, sample::QUESTION)?;
+    calls::enter(rt, sample::QUESTION, book.enter(sample::QUESTION))?;
     let room = Room {
         constraints: 5,
         edges: 1,
@@ -81,7 +84,13 @@ fn walk(rt: &HostRuntime) -> anyhow::Result<()> {
     println!(rt; "Two elements: 1 is better than 0, or each is better than the other.")?;
     preferences::fill_orders(rt)?;
     println!(rt; "== Hand-ins are judged")?;
-    judge_hand_ins(rt)
+    judge_hand_ins(rt)?;
+    println!(rt; "== A docket over a slot table")?;
+    let mut docket: Docket<SlotTable> = Docket::new(rt.alloc())?;
+    standing::drive(rt, &mut docket)?;
+    println!(rt; "== The same over a journal")?;
+    let mut docket: Docket<Journal> = Docket::new(rt.alloc())?;
+    Ok(standing::drive(rt, &mut docket)?)
 }
 
 fn main(rt: HostRuntime) -> anyhow::Result<()> {

@@ -8,5 +8,7 @@ returns c = record {
   law = docket_law;
   extend = run_on;
   models = models_handed;
-  tableaux = λ bk lawful ls t within fits. (tableaux_have_bytes bk lawful.well_formed ls t within fits).refutes;
+  tableaux = λ bk lawful ls t within fits.
+      let h = tableaux_have_bytes bk lawful.well_formed ls t within fits in
+      (h.bytes, h.refutes);
 }

@@ -1,0 +1,116 @@
+// A working book with a standing.
+ghost use Rattle.std.specs.Prelude.{◌≡◌, List, [], ◌∷◌, IfOk};
+ghost use Rattle.judge.specs.Blanks.{lengths, AllBlank};
+ghost use Rattle.docket.specs.Events.{Event};
+ghost use Rattle.docket.specs.Runs.{Moved, Run};
+ghost use Rattle.docket.specs.Laws.{LawfulRun};
+ghost use Rattle.docket.specs.Dockets.{at, Reached};
+
+use crate::fault::Fault;
+use crate::standing::{Granted, Standing};
+use books::book::EditableBook;
+use judge::refute::refute;
+use judge::show::show;
+use judge::used::Used;
+use judge::working::Split;
+use logic::records::{RawEntry, RawNode};
+use logic::tableau::{Constraint, Edge};
+use orders::order::Order;
+use std::alloc::{AllocError, Global};
+use std::marker::Model;
+
+// The book is reached through the docket alone. A refused call leaves all three as they were.
+#[derive(Drop)]
+pub struct Docket<B: EditableBook> {
+    book: B,
+    standing: Standing,
+    used: Used,
+}
+
+// To a contract it is a state of a run, and none but those that a run of calls has reached.
+impl<B: EditableBook> Model for Docket<B> {
+    ghost use Rattle.docket.specs.Dockets.{Held, held, Reached};
+
+    ghost Value = { Held };
+
+    ghost view = { λ d. held (B.ReadableBook.meaning d.book) d.standing d.used };
+
+    ghost invariant = { λ d. Reached (held (B.ReadableBook.meaning d.book) d.standing d.used) };
+}
+
+impl<B: EditableBook> Docket<B> {
+    // A docket with a new book, empty and open: a run begins.
+    pub fn new(heap: Global) -> Result<Docket<B>, AllocError>
+        ensures { IfOk result (λ d. Run [] (at d)) }
+    {
+        let book = B::new(heap)?;
+        Ok(Docket {
+            book,
+            standing: Standing::Open,
+            used: Used::new(),
+        })
+    }
+
+    // Where the docket stands. A run has led here, and of whichever has, the whole law holds.
+    pub fn standing(&self) -> Standing
+        ensures answer { result ≡ self.now.standing }
+        ensures run { Moved (Event.standing result ∷ []) (at self.now) (at self.now) }
+        ensures reached { Reached self.now }
+        ensures law { (h : List Event) → Run h (at self.now) → LawfulRun h (at self.now) }
+    {
+        self.standing
+    }
+
+    // Appends a node to the book, and answers its number.
+    pub fn node(&mut self, raw: RawNode) -> Result<u16, Fault>
+        ensures { Moved (Event.node raw result ∷ []) (at self.old) (at self.new) }
+    {
+        Ok(self.book.node(raw)?)
+    }
+
+    // Appends an entry to the book, and answers its number.
+    pub fn enter(&mut self, raw: RawEntry) -> Result<u16, Fault>
+        ensures { Moved (Event.enter raw result ∷ []) (at self.old) (at self.new) }
+    {
+        let i = self.book.enter(raw)?;
+        self.standing.follow(Granted::Entered);
+        Ok(i)
+    }
+
+    // Strikes a live entry of the book.
+    pub fn strike(&mut self, i: u16) -> Result<(), Fault>
+        ensures { Moved (Event.strike i result ∷ []) (at self.old) (at self.new) }
+    {
+        self.book.strike(i)?;
+        self.standing.follow(Granted::struck(self.used.has(i)));
+        Ok(())
+    }
+
+    // Judges a tableau against the book, and answers how many entries it used. The lists are left blank.
+    pub fn refute(
+        &mut self,
+        bytes: &[u8],
+        constraints: &mut [Constraint],
+        edges: &mut [Edge],
+        splits: &mut [Split],
+    ) -> Result<u16, Fault>
+        ensures run { Moved (Event.refute bytes.now (lengths constraints.old edges.old splits.old) result ∷ []) (at self.old) (at self.new) }
+        ensures blank { AllBlank (lengths constraints.old edges.old splits.old) constraints.new edges.new splits.new }
+    {
+        let used = refute(&self.book, bytes, constraints, edges, splits)?;
+        let count = used.count();
+        self.used = used;
+        self.standing.follow(Granted::Closed);
+        Ok(count)
+    }
+
+    // Judges a model against the book, with an order of any kind, and answers the number of its elements. The
+    // list is left as the judge leaves it.
+    pub fn show<O: Order>(&mut self, bytes: &[u8], order: &O, list: &mut [u32]) -> Result<u8, Fault>
+        ensures { Moved (Event.show bytes.now (O.Order.meaning order.now) list.new result ∷ []) (at self.old) (at self.new) }
+    {
+        let n = show(&self.book, bytes, order, list)?;
+        self.standing.follow(Granted::Satisfied);
+        Ok(n)
+    }
+}

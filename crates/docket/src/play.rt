@@ -1,0 +1,79 @@
+// A list of calls, played on a new docket.
+ghost use Rattle.std.specs.Prelude.{List, [], ◌∷◌, length, IfOk};
+ghost use Rattle.judge.specs.Blanks.{lengths};
+ghost use Rattle.docket.specs.Events.{Event};
+ghost use Rattle.docket.specs.Runs.{Moved, Run};
+ghost use Rattle.docket.specs.Laws.{LawfulRun};
+ghost use Rattle.docket.specs.Dockets.{at};
+ghost use Rattle.docket.specs.Plays.{Asks, Played};
+
+use crate::docket::Docket;
+use books::book::EditableBook;
+use judge::working::Split;
+use logic::records::{RawEntry, RawNode};
+use logic::tableau::{Constraint, Edge};
+use orders::order::Order;
+use std::alloc::{AllocError, Global};
+
+// One call, and what it is handed besides the working lists.
+#[derive(Drop)]
+pub enum Call<'a, O> {
+    Node(RawNode),
+    Enter(RawEntry),
+    Strike(u16),
+    Refute(&'a [u8]),
+    Show(&'a [u8], &'a O),
+    Standing,
+}
+
+// Makes one call; what it answers is left to the event.
+fn make<B: EditableBook, O: Order>(
+    docket: &mut Docket<B>,
+    call: &Call<'_, O>,
+    constraints: &mut [Constraint],
+    edges: &mut [Edge],
+    splits: &mut [Split],
+    sets: &mut [u32],
+)
+    ensures { (e : Event) × Asks O.Order.meaning (lengths constraints.old edges.old splits.old) (length sets.old) call.now e × Moved (e ∷ []) (at docket.old) (at docket.new) }
+{
+    match call {
+        Call::Node(raw) => {
+            let _ = docket.node(*raw);
+        }
+        Call::Enter(raw) => {
+            let _ = docket.enter(*raw);
+        }
+        Call::Strike(i) => {
+            let _ = docket.strike(*i);
+        }
+        Call::Refute(bytes) => {
+            let _ = docket.refute(*bytes, constraints, edges, splits);
+        }
+        Call::Show(bytes, order) => {
+            let _ = docket.show(*bytes, *order, sets);
+        }
+        Call::Standing => {
+            let _ = docket.standing();
+        }
+    }
+}
+
+// Plays the calls, one after the other, on a new docket: a run has led to what is answered, its events are
+// these calls in their order, and the whole law holds of it.
+pub fn play<B: EditableBook, O: Order>(
+    heap: Global,
+    calls: &[Call<'_, O>],
+    constraints: &mut [Constraint],
+    edges: &mut [Edge],
+    splits: &mut [Split],
+    sets: &mut [u32],
+) -> Result<Docket<B>, AllocError>
+    ensures { IfOk result (λ d. (h : List Event) × Played O.Order.meaning (lengths constraints.old edges.old splits.old) (length sets.old) calls.now h × Run h (at d) × LawfulRun h (at d)) }
+{
+    let mut docket: Docket<B> = Docket::new(heap)?;
+    for call in calls {
+        make(&mut docket, call, constraints, edges, splits, sets);
+    }
+    Ok(docket)
+}

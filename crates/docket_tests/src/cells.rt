@@ -1,0 +1,76 @@
+// A run through every cell of the table that occurs.
+use crate::answers::{enter, refute, show_sample, strike, write_sample};
+use books::book::EditableBook;
+use books::journal::Journal;
+use books::sample;
+use books::slot_table::SlotTable;
+use docket::docket::Docket;
+use docket::standing::Standing;
+use std::alloc::Global;
+use std::process::Abort;
+use std::test::Fail;
+
+const PAIRS: [u8; 8] = [2, 0, 0, 0, 0, 0, 0, 0];
+
+// From open to shown, and back by an entry; then refuted.
+fn to_refuted<B: EditableBook>(rt: &impl Abort, docket: &mut Docket<B>) -> Result<(), Fail> {
+    write_sample(docket);
+    assert_eq!(rt; docket.standing(), Standing::Open);
+    assert_eq!(rt; show_sample(docket, &PAIRS), Ok(2));
+    assert_eq!(rt; docket.standing(), Standing::Shown);
+    assert_eq!(rt; show_sample(docket, &PAIRS), Ok(2));
+    assert_eq!(rt; docket.standing(), Standing::Shown);
+    assert_eq!(rt; enter(docket, 2, 0, 3, 0), Ok(3));
+    assert_eq!(rt; docket.standing(), Standing::Open);
+    assert_eq!(rt; refute(docket, &sample::REFUTATION), Ok(4));
+    assert_eq!(rt; docket.standing(), Standing::Refuted);
+    assert_eq!(rt; refute(docket, &sample::REFUTATION), Ok(4));
+    assert_eq!(rt; docket.standing(), Standing::Refuted);
+    Ok(())
+}
+
+// An entry comes and goes, and nothing moves; then one goes that the tableau used.
+fn to_open<B: EditableBook>(rt: &impl Abort, docket: &mut Docket<B>) -> Result<(), Fail> {
+    assert_eq!(rt; enter(docket, 2, 1, 0, 0), Ok(4));
+    assert_eq!(rt; docket.standing(), Standing::Refuted);
+    assert_eq!(rt; strike(docket, 4), Ok(()));
+    assert_eq!(rt; docket.standing(), Standing::Refuted);
+    assert_eq!(rt; strike(docket, 3), Ok(()));
+    assert_eq!(rt; docket.standing(), Standing::Open);
+    assert_eq!(rt; enter(docket, 2, 1, 0, 0), Ok(5));
+    assert_eq!(rt; strike(docket, 5), Ok(()));
+    assert_eq!(rt; docket.standing(), Standing::Open);
+    Ok(())
+}
+
+// Strikes leave shown, of entries used and of others; and open, of an entry used.
+fn to_shown_and_open<B: EditableBook>(rt: &impl Abort, docket: &mut Docket<B>) -> Result<(), Fail> {
+    assert_eq!(rt; enter(docket, 2, 1, 0, 0), Ok(6));
+    assert_eq!(rt; show_sample(docket, &PAIRS), Ok(2));
+    assert_eq!(rt; strike(docket, 6), Ok(()));
+    assert_eq!(rt; docket.standing(), Standing::Shown);
+    assert_eq!(rt; strike(docket, 0), Ok(()));
+    assert_eq!(rt; docket.standing(), Standing::Shown);
+    assert_eq!(rt; enter(docket, 2, 1, 0, 0), Ok(7));
+    assert_eq!(rt; docket.standing(), Standing::Open);
+    assert_eq!(rt; strike(docket, 1), Ok(()));
+    assert_eq!(rt; docket.standing(), Standing::Open);
+    Ok(())
+}
+
+fn every_cell<B: EditableBook>(rt: &impl Abort, heap: Global) -> Result<(), Fail> {
+    let mut docket: Docket<B> = Docket::new(heap)?;
+    to_refuted(rt, &mut docket)?;
+    to_open(rt, &mut docket)?;
+    to_shown_and_open(rt, &mut docket)
+}
+
+#[test]
+fn in_a_slot_table(rt: HostRuntime) -> Result<(), Fail> {
+    every_cell::<SlotTable>(&rt, rt.alloc())
+}
+
+#[test]
+fn in_a_journal(rt: HostRuntime) -> Result<(), Fail> {
+    every_cell::<Journal>(&rt, rt.alloc())
+}
