@@ -1,12 +1,14 @@
 // A book that is read within the sealed bytes it was opened on; nothing is copied.
-ghost use Rattle.std.specs.Prelude.{◌≡◌};
+ghost use Rattle.std.specs.Prelude.{◌≡◌, Err, IfOk, IfErr};
 ghost use Rattle.sealed.specs.Frames.{book_in};
-ghost use Rattle.sealed.specs.Checks.{Opened};
+ghost use Rattle.sealed.specs.Writing.{SealedAs};
+ghost use Rattle.sealed.specs.Checks.{CheckAnswer, Opened};
 ghost use Rattle.sealed.specs.Steps.{Stands};
 ghost use Rattle.logic.specs.Lawful.{Lawful};
 ghost use Rattle.logic.proofs.Deciding.{lawful_known};
 
 use crate::check::checked;
+use crate::faults::CheckFault;
 use crate::frame::Frame;
 use books::book::ReadableBook;
 use logic::records::{Line, Node};
@@ -20,6 +22,15 @@ pub struct SealedBook<'a> {
 }
 
 impl<'a> SealedBook<'a> {
+    // The book that is sealed in these bytes, or what check answers to them.
+    pub fn read(bytes: &'a [u8]) -> Result<SealedBook<'a>, CheckFault>
+        ensures granted { IfOk result (λ b. SealedAs bytes.now (book_in b.frame)) }
+        ensures refused { IfErr result (λ f. CheckAnswer bytes.now (Err f)) }
+    {
+        let frame = checked(bytes)?;
+        Ok(SealedBook { frame })
+    }
+
     // The book that is sealed in these bytes, or the empty book where check refuses them.
     pub fn open(bytes: &'a [u8]) -> SealedBook<'a>
         ensures within { result.frame.bytes.now ≡ bytes.now }

@@ -4,3 +4,5 @@ pub mod Lines
 pub mod Answers
 -- theorems about the lines
 pub mod Laws
+-- the number and the place of each fault of a hand-in
+pub mod MarkFaults

@@ -3,6 +3,8 @@
 
 pub mod laws;
 pub mod line;
+pub mod mark;
+pub mod mark_fault;
 
 // What came of a hand-in.
 #[derive(Clone, Copy)]
