@@ -32,6 +32,10 @@ passed_reads bs n m p bk sealed =
     let same-m : length bk.lines ≡ m = q.entries_are ∙ sym p.entries_are in
     subst (λ k. sealed_book bs k m ≡ bk) same-n (subst (λ k. sealed_book bs (length bk.nodes) k ≡ bk) same-m (sealed_reads bs bk sealed))
 
+-- one book is sealed in bytes
+pub sealed_once : (bs : List ℕ) (a b : Book) → SealedAs bs a → SealedAs bs b → a ≡ b
+sealed_once bs a b as-a as-b = sym (sealed_reads bs a as-a) ∙ passed_reads bs _ _ (sealed_passes bs a as-a) b as-b
+
 -- the frame with which bytes are opened: they pass with its counts, or it is empty and they are no sealed book
 abbrev pub Counted : Frame → Type 0
 Counted f = Passes f.bytes.now f.counts.nodes f.counts.entries ⊎ ((f.counts.nodes ≡ 0) × (f.counts.entries ≡ 0) × (Sealed f.bytes.now → ⊥))
@@ -66,6 +70,6 @@ round_trip bk lawful bytes is =
     let sealed : SealedAs bytes bk = record { lawful = lawful; note = []; is = is } in
     record {
       sealed = sealed;
-      only = λ other as-other. sym (passed_reads bytes _ _ (sealed_passes bytes bk sealed) other as-other) ∙ sealed_reads bytes bk sealed;
+      only = λ other as-other. sealed_once bytes other bk as-other sealed;
       same = λ bs before none. is ∙ sym (before.is ∙ ap (λ note. note ++ written bk) none);
     }

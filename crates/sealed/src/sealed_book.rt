@@ -25,6 +25,7 @@ impl<'a> SealedBook<'a> {
     // The book that is sealed in these bytes, or what check answers to them.
     pub fn read(bytes: &'a [u8]) -> Result<SealedBook<'a>, CheckFault>
         ensures granted { IfOk result (λ b. SealedAs bytes.now (book_in b.frame)) }
+        ensures within { IfOk result (λ b. b.frame.bytes.now ≡ bytes.now) }
         ensures refused { IfErr result (λ f. CheckAnswer bytes.now (Err f)) }
     {
         let frame = checked(bytes)?;

@@ -6,3 +6,7 @@ pub mod Readings
 pub mod Lengths
 -- one piece of text after another
 pub mod Pieces
+-- the places of refusals
+pub mod Places
+-- from what the parts answer to the verdict
+pub mod Marking

@@ -6,3 +6,5 @@ pub mod Answers
 pub mod Laws
 -- the number and the place of each fault of a hand-in
 pub mod MarkFaults
+-- the verdict on a hand-in
+pub mod Marks

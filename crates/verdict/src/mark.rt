@@ -1,4 +1,9 @@
 // Marking: the verdict on a hand-in, from its bytes alone.
+ghost use Rattle.std.specs.Prelude.{◌≡◌, ◌<◌, ◌^◌};
+ghost use Rattle.verdict.specs.declared.Verdict.TheVariants as verdict;
+ghost use Rattle.verdict.specs.MarkFaults.{mark_fault_number, mark_fault_place};
+ghost use Rattle.verdict.specs.Marks.{whole, TableauAnswer, ModelAnswer, TableauMark, ModelMark};
+
 use crate::Verdict;
 use crate::mark_fault::MarkFault;
 use judge::lists::Blank;
@@ -14,13 +19,17 @@ pub const WHOLE: usize = 65535;
 // How many records each working list has.
 const RECORDS: usize = 4096;
 
-// The first 65,535 bytes are the whole.
-fn whole(bytes: &[u8]) -> &[u8] {
+// The first 65,535 bytes.
+fn first(bytes: &[u8]) -> &[u8]
+    ensures { result.now ≡ whole bytes.now }
+{
     bytes.get(..WHOLE).unwrap_or(bytes)
 }
 
 // How many entries a tableau uses that refutes the sealed book.
-fn refuted(book: &[u8], steps: &[u8]) -> Result<u16, MarkFault> {
+fn refuted(book: &[u8], steps: &[u8]) -> Result<u16, MarkFault>
+    ensures { TableauAnswer book.now steps.now result }
+{
     let book = SealedBook::read(book)?;
     let mut constraints = [Blank::blank(); RECORDS];
     let mut edges = [Blank::blank(); RECORDS];
@@ -30,34 +39,44 @@ fn refuted(book: &[u8], steps: &[u8]) -> Result<u16, MarkFault> {
 }
 
 // How many elements a model has that satisfies the sealed book.
-fn satisfied(book: &[u8], model: &[u8], pairs: &[u8]) -> Result<u8, MarkFault> {
-    let book = SealedBook::read(book)?;
+fn satisfied(book: &[u8], model: &[u8], pairs: &[u8]) -> Result<u8, MarkFault>
+    ensures { ModelAnswer book.now model.now pairs.now result }
+{
+    let sealed = SealedBook::read(book)?;
     let mut order = Pairs::new();
     order.fill(pairs)?;
     let mut sets = [0; RECORDS];
-    Ok(show(&book, model, &order, &mut sets)?)
+    Ok(show(&sealed, model, &order, &mut sets)?)
 }
 
-fn refused(fault: MarkFault) -> Verdict {
+// A fault by its number and its place.
+fn refused(fault: MarkFault) -> Verdict
+    requires { mark_fault_place fault < 2 ^ 32 }
+    ensures { result ≡ verdict.Refused (mark_fault_number fault) (mark_fault_place fault) }
+{
     let (number, place) = told(&fault);
     Verdict::Refused {
         number: number as u32,
-        place: u32::try_from(place).unwrap_or(u32::MAX),
+        place: place as u32,
     }
 }
 
-// Marks a tableau against a sealed book.
-pub fn mark_tableau(book: &[u8], steps: &[u8]) -> Verdict {
-    refuted(whole(book), whole(steps)).map_or_else(
-        refused,
-        |entries| Verdict::Closed(entries as u32),
-    )
+// Marks a tableau against a sealed book. Of each the first 65,535 bytes are the whole.
+pub fn mark_tableau(book: &[u8], steps: &[u8]) -> Verdict
+    ensures { TableauMark (whole book.now) (whole steps.now) result }
+{
+    match refuted(first(book), first(steps)) {
+        Ok(entries) => Verdict::Closed(entries as u32),
+        Err(fault) => refused(fault),
+    }
 }
 
-// Marks a model, with its pairs, against a sealed book.
-pub fn mark_model(book: &[u8], model: &[u8], pairs: &[u8]) -> Verdict {
-    satisfied(whole(book), whole(model), whole(pairs)).map_or_else(
-        refused,
-        |elements| Verdict::Satisfied(elements as u32),
-    )
+// Marks a model, with its "better" in pairs, against a sealed book. Of each the first 65,535 bytes are the whole.
+pub fn mark_model(book: &[u8], model: &[u8], pairs: &[u8]) -> Verdict
+    ensures { ModelMark (whole book.now) (whole model.now) (whole pairs.now) result }
+{
+    match satisfied(first(book), first(model), first(pairs)) {
+        Ok(elements) => Verdict::Satisfied(elements as u32),
+        Err(fault) => refused(fault),
+    }
 }
