@@ -15,21 +15,22 @@ use logic::tableau::{Constraint, Edge};
 use orders::order::Order;
 use std::alloc::{AllocError, Global};
 
-// One call, and what it is handed besides the working lists.
+// One call, and what it is handed besides the working lists: bytes S and an order O. Both are type parameters, since
+// an enum that holds a reference itself cannot yet hold an order that has an invariant.
 #[derive(Drop)]
-pub enum Call<'a, O> {
+pub enum Call<S, O> {
     Node(RawNode),
     Enter(RawEntry),
     Strike(u16),
-    Refute(&'a [u8]),
-    Show(&'a [u8], &'a O),
+    Refute(S),
+    Show(S, O),
     Standing,
 }
 
 // Makes one call; what it answers is left to the event.
 fn make<B: EditableBook, O: Order>(
     docket: &mut Docket<B>,
-    call: &Call<'_, O>,
+    call: &Call<&[u8], O>,
     constraints: &mut [Constraint],
     edges: &mut [Edge],
     splits: &mut [Split],
@@ -51,7 +52,7 @@ fn make<B: EditableBook, O: Order>(
             let _ = docket.refute(*bytes, constraints, edges, splits);
         }
         Call::Show(bytes, order) => {
-            let _ = docket.show(*bytes, *order, sets);
+            let _ = docket.show(*bytes, order, sets);
         }
         Call::Standing => {
             let _ = docket.standing();
@@ -63,7 +64,7 @@ fn make<B: EditableBook, O: Order>(
 // these calls in their order, and the whole law holds of it.
 pub fn play<B: EditableBook, O: Order>(
     heap: Global,
-    calls: &[Call<'_, O>],
+    calls: &[Call<&[u8], O>],
     constraints: &mut [Constraint],
     edges: &mut [Edge],
     splits: &mut [Split],

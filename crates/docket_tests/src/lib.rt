@@ -6,6 +6,8 @@ mod answers;
 #[cfg(test)]
 mod cells;
 #[cfg(test)]
+mod played;
+#[cfg(test)]
 mod refusals;
 #[cfg(test)]
 mod second_tableau;
