@@ -8,3 +8,5 @@ pub mod Laws
 pub mod MarkFaults
 -- the verdict on a hand-in
 pub mod Marks
+-- the sample rows
+pub mod Rows

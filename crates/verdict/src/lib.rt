@@ -5,6 +5,7 @@ pub mod laws;
 pub mod line;
 pub mod mark;
 pub mod mark_fault;
+pub mod rows;
 
 // What came of a hand-in.
 #[derive(Clone, Copy)]
