@@ -1,5 +1,7 @@
-// Tests of the lines of verdicts.
+// Tests of verdicts: their lines, and the marking of hand-ins.
 #![tactic(auto)]
 
 #[cfg(test)]
 mod lines;
+#[cfg(test)]
+mod marks;

@@ -1,0 +1,41 @@
+// Numbers that are written over what a file has.
+use crate::numbers::Size::{Four, One};
+use crate::numbers::{Size, numbers, push};
+use anyhow::{Context, Result};
+use std::alloc::Global;
+
+// Where a number goes, how many bytes it has, and which it is.
+#[derive(Clone, Copy)]
+struct Field {
+    at: usize,
+    size: Size,
+    number: u32,
+}
+
+// The field of an interpretation that a line names, or a byte of any file.
+fn field_of(key: &str, numbers: &[u32]) -> Option<Field> {
+    let (at, size, number) = match (key, numbers) {
+        ("elements", [n]) => (0, One, *n),
+        ("names", [i, mask]) => (1 + 4 * *i as usize, Four, *mask),
+        ("roles", [role, x, mask]) => (257 + 4 * (32 * *role as usize + *x as usize), Four, *mask),
+        ("individuals", [i, x]) => (2305 + *i as usize, One, *x),
+        ("set", [at, byte]) => (*at as usize, One, *byte),
+        _ => return None,
+    };
+    Some(Field { at, size, number })
+}
+
+// Writes fields with commas between.
+pub(crate) fn write(heap: Global, file: &mut Vec<u8>, key: &str, text: &str) -> Result<()> {
+    for item in text.split(',') {
+        let field = field_of(key, &numbers(heap, item)?).context("no such field")?;
+        let mut bytes = Vec::new(heap);
+        push(&mut bytes, field.number, field.size)?;
+        for (i, byte) in bytes.iter().enumerate() {
+            *file
+                .get_mut(field.at.saturating_add(i))
+                .context("past the end")? = *byte;
+        }
+    }
+    Ok(())
+}
