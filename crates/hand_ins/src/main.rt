@@ -10,7 +10,7 @@ use anyhow::{Context, Result, ensure};
 use hand_in::HandIn;
 use std::fs;
 use tally::Tally;
-use verdict::line::line;
+use verdict::line::{LONGEST, line};
 
 // In the folder data/, whose page says how a hand-in is written.
 const FILES: [&str; 4] = ["books.txt", "tableaux.txt", "models.txt", "limits.txt"];
@@ -18,7 +18,7 @@ const FILES: [&str; 4] = ["books.txt", "tableaux.txt", "models.txt", "limits.txt
 // Marks a hand-in and prints its name, its line, and whether it was expected.
 fn mark(rt: &impl Print, hand_in: &HandIn, expected: &str, tally: &mut Tally) -> Result<()> {
     let verdict = hand_in.mark();
-    let mut buffer = [0; 33];
+    let mut buffer = [0; LONGEST];
     let length = line(verdict, &mut buffer).unwrap();
     let line = str::from_utf8(&buffer[..length])?;
     let text = line.strip_suffix('\n').context("no line feed")?;

@@ -12,11 +12,8 @@ use std::io;
 use std::io::Write;
 use std::rt::Files;
 use verdict::Verdict;
-use verdict::line::line;
+use verdict::line::{LONGEST, line};
 use verdict::mark::{mark_model, mark_tableau};
-
-// As long as the longest line.
-const LONGEST: usize = 33;
 
 // The verdict on the tableau in the folder or, where it has no steps, on the model.
 fn mark<R: Files + AllocGlobal>(rt: &R) -> anyhow::Result<Verdict> {

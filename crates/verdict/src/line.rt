@@ -11,7 +11,7 @@ use logic::refusal::BadLength;
 pub type LineFault = BadLength<20>;
 
 // As long as the longest line, `refused 4294967295 at 4294967295` and a line feed.
-const LONGEST: usize = 33;
+pub const LONGEST: usize = 33;
 
 // A lent buffer that is written from the front on.
 #[derive(Drop)]
