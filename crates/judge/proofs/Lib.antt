@@ -1,6 +1,8 @@
 -- lists of one value
 pub mod Replicated
--- lists that are filled with sets
+-- masks by their operands
+pub mod Operands
+-- lists that are filled with masks
 pub mod ShowFill
 -- entries that fail
 pub mod ShowEntries
@@ -12,6 +14,8 @@ pub mod ShowExact
 pub mod Encoding
 -- the entries that steps name
 pub mod Naming
+-- the number and the place of a refusal of refute
+pub mod Telling
 -- the promise of refute
 pub mod Answering
 -- steps as the writing of a tree

@@ -1,38 +1,60 @@
 -- Live entries that are false, and the lowest of them. Assumes nothing.
-use Rattle.std.proofs.Common.{◌≡◌, ℕ, ◌<◌, ◌≤◌, Bool, true, false, List, length, Some, None, MatchOption, Option, ap, subst, arith}
+use Rattle.std.proofs.Common.{◌≡◌, ℕ, ◌<◌, ◌≤◌, Bool, true, false, List, length, Some, None, MatchOption, Option, ap, subst, inl, inr, arith}
+use Rattle.std.proofs.lemmas.Bool.{cases_Bool, both_ways}
 use Rattle.logic.specs.declared.records.Entry.{Entry}
 use Rattle.logic.specs.declared.records.Line.{Line}
 use Rattle.logic.specs.Books.{Book, line_at}
 use Rattle.logic.specs.Models.{Model}
 use Rattle.logic.specs.Satisfaction.{Live, HoldsIn}
+use Rattle.orders.specs.Masks.{Preference}
 use Rattle.models.specs.Interpretations.{Interpretation}
-use Rattle.models.specs.Meanings.{meant}
-use Rattle.judge.specs.Shows.{TellsFailing, FindsFalse}
+use Rattle.models.specs.Fields.{FirstWithout}
+use Rattle.models.specs.Meanings.{Fits, meant}
+use Rattle.models.specs.NodeMasks.{TrueByMasks}
+use Rattle.models.proofs.ConceptSets.{truth_of_masks}
+use Rattle.judge.specs.NodeSets.{Sets}
+use Rattle.judge.specs.Shows.{TrueIfLive, TellsFailing, FirstFalse, FindsFalse}
 use Rattle.judge.proofs.Agreeing.{live_within}
 use Rattle.judge.proofs.ShowFill.{sets_everywhere}
-
--- what is told of a line is true of the live entry there
-told_true : (m : Model) (bk : Book) (k : ℕ) (e : Entry) → Live bk k e → ((line_at bk k).live ≡ true → HoldsIn m bk (line_at bk k).entry) → HoldsIn m bk e
-told_true m bk k e live h = subst (λ (l : Line). HoldsIn m bk l.entry) live (h (ap (λ (l : Line). l.live) live))
 
 module _ (bk : Book) (i : Interpretation) (list : List ℕ) where
   -- what a test of entry k tells
   abbrev pub Told : Bool → ℕ → Type 0
   Told test k = TellsFailing i list (line_at bk k) test
 
-  -- the first entry that the test picks out is the lowest live entry that is false
-  pub finds : (n : ℕ) (r : Option ℕ) → n ≡ length bk.lines → MatchOption r ((k : ℕ) → 0 ≤ k → k < n → Told false k) (λ j. (0 ≤ j) × (j < n) × Told true j × ((k : ℕ) → 0 ≤ k → k < j → Told false k)) → FindsFalse bk i list r
-  finds n None e none o f s =
-      let m = meant i o f in
-      let all = sets_everywhere m bk list s in
-      λ j x live. let l = live_within bk j x live in told_true m bk j x live ((none j (omega arith) (omega arith)).tells o f bk all)
-  finds n (Some k) e found o f s =
-      let m = meant i o f in
-      let all = sets_everywhere m bk list s in
-      let told = found.2.tells o f bk all in
-      record {
-        entry = (line_at bk k).entry;
-        live = λ t. record { entry = (line_at bk k).entry; live = told.0 t };
-        false_here = told.1;
-        true_before = λ j x before live. told_true m bk j x live ((found.3 j (omega arith) before).tells o f bk all);
-      }
+  abbrev pub TrueAt : ℕ → Type 0
+  TrueAt k = TrueIfLive i list (line_at bk k)
+
+  -- the first entry that the test picks out is the first that is live and not true
+  pub lowest : (n : ℕ) (r : Option ℕ) → n ≡ length bk.lines → MatchOption r ((k : ℕ) → 0 ≤ k → k < n → Told false k) (λ j. (0 ≤ j) × (j < n) × Told true j × ((k : ℕ) → 0 ≤ k → k < j → Told false k)) → FirstWithout TrueAt (length bk.lines) r
+  lowest n None e none = λ k l. none k (omega arith) (omega arith)
+  lowest n (Some k) e found = (omega (arith, found.1), found.2, λ j l. found.3 j (omega arith) l)
+
+  module _ (o : Preference) (f : Fits i o) (s : Sets (meant i o f) bk list) where
+    abbrev M : Model
+    M = meant i o f
+
+    same : (e : Entry) → (TrueByMasks i list e → HoldsIn M bk e) × (HoldsIn M bk e → TrueByMasks i list e)
+    same e = truth_of_masks i o f bk list (sets_everywhere M bk list s) e
+
+    true_at : (k : ℕ) (e : Entry) → Live bk k e → TrueAt k → HoldsIn M bk e
+    true_at k e live h = (same e).0 (subst (λ (l : Line). TrueByMasks i list l.entry) live (h (ap (λ (l : Line). l.live) live)))
+
+    live_at : (k : ℕ) → (TrueAt k → ⊥) → (line_at bk k).live ≡ true
+    live_at k never = elim (cases_Bool (line_at bk k).live) [
+      | inl t ↦ t
+      | inr e ↦ absurd (never (λ t. absurd (both_ways _ e t)))
+    ]
+
+    -- where the list has the sets, it is the lowest live entry that is false in the model
+    first_in : (r : Option ℕ) → FirstWithout TrueAt (length bk.lines) r → FirstFalse M bk r
+    first_in None none = λ j e live. true_at j e live (none j (live_within bk j e live))
+    first_in (Some k) found = record {
+      entry = (line_at bk k).entry;
+      live = λ t. record { entry = (line_at bk k).entry; live = live_at k found.1 t };
+      false_here = λ h. found.1 (λ _. (same (line_at bk k).entry).1 h);
+      true_before = λ j e before live. true_at j e live (found.2 j before);
+    }
+
+  pub finds : (r : Option ℕ) → FirstWithout TrueAt (length bk.lines) r → FindsFalse bk i list r
+  finds r h o f s = first_in o f s r h

@@ -15,7 +15,7 @@ module _ (bk : Book) (i : Interpretation) (o : Preference) (list bs : List ℕ) 
   readable = (whole, subst (λ j. Fits j o) e (record { valid = valid; strict = strict; sized = sized }))
 
   sets : (f : Fits (said bs) o) → Sets (meant (said bs) o f) bk list
-  sets = subst (λ j. (f : Fits j o) → Sets (meant j o f) bk list) e filled.1
+  sets = subst (λ j. (f : Fits j o) → Sets (meant j o f) bk list) e filled.2
 
   pub at_entry : (k : ℕ) → FindsFalse bk i list (Some k) → ShowAnswer bk bs o list (Err (EntryFails k))
   at_entry k found = (readable, filled.0, refl, λ f. (subst (λ j. FindsFalse bk j list (Some k)) e found o f (sets f), sets f))

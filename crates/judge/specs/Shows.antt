@@ -1,12 +1,11 @@
 -- What show answers of a book, an interpretation in bytes and an order, and what it leaves in its list.
--- LowestFalse, FirstFalse: the lowest live entry that is false. TellsFailing, FindsFalse: how it is
+-- LowestFalse, FirstFalse: the lowest live entry that is false. TrueIfLive, TellsFailing, FindsFalse: how it is
 -- found. ShowAnswer: what each answer means. Exact: each answer is given wherever it fits.
 -- ShowsModels: what show says of a model. ShowPromise: all of this.
 -- Assumes nothing.
 use Rattle.std.specs.Prelude.{◌≡◌, ℕ, ◌<◌, ◌≤◌, Bool, true, List, length, is_ok, Some, None, Ok, Err, Decides, MatchBool, Option, Result, ◌≢◌}
 use Rattle.logic.specs.declared.records.Entry.{Entry}
 use Rattle.logic.specs.declared.records.Line.{Line}
-use Rattle.logic.specs.Concepts.{concepts}
 use Rattle.logic.specs.Books.{Book}
 use Rattle.logic.specs.Models.{Model}
 use Rattle.logic.specs.Likeness.{Alike}
@@ -15,7 +14,7 @@ use Rattle.orders.specs.Masks.{Preference}
 use Rattle.models.specs.Interpretations.{Interpretation, said}
 use Rattle.models.specs.Fields.{Valid, LowestBad}
 use Rattle.models.specs.Meanings.{Fits, meant}
-use Rattle.models.specs.Extensions.{HaveSets}
+use Rattle.models.specs.NodeMasks.{TrueByMasks}
 use Rattle.models.specs.declared.faults.ViewFault.TheVariants.{BadLength, BadField}
 use Rattle.models.specs.Answers.{Whole, Unreadable}
 use Rattle.judge.specs.declared.show_faults.ShowFault.{ShowFault}
@@ -35,13 +34,16 @@ abbrev pub FirstFalse : Model → Book → Option ℕ → Type 0
 FirstFalse m bk None = Satisfies m bk
 FirstFalse m bk (Some i) = LowestFalse m bk i
 
--- In every model that the interpretation means, with whatever order, and for all books the sets of whose
--- nodes the list has, the test tells whether the entry is live and false, or is true if it is live.
-pub record TellsFailing (i : Interpretation) (list : List ℕ) (l : Line) (test : Bool) : Type 0 where
-  pub tells : (o : Preference) (f : Fits i o) (bk : Book) → HaveSets (meant i o f) (concepts bk.nodes) list →
-      MatchBool test ((l.live ≡ true) × (HoldsIn (meant i o f) bk l.entry → ⊥)) (l.live ≡ true → HoldsIn (meant i o f) bk l.entry)
+-- the entry of the line is true by the masks of the list, if it is live
+abbrev pub TrueIfLive : Interpretation → List ℕ → Line → Type 0
+TrueIfLive i list l = l.live ≡ true → TrueByMasks i list l.entry
 
--- the lowest live entry that is false in every such model, if there is one, where the list has the sets
+-- the test tells whether that is not so
+abbrev pub TellsFailing : Interpretation → List ℕ → Line → Bool → Type 0
+TellsFailing i list l test = MatchBool test (TrueIfLive i list l → ⊥) (TrueIfLive i list l)
+
+-- Where the list has the set of each node, in a model that the interpretation means, with whatever order: the lowest
+-- live entry that is false in it, if there is one.
 abbrev pub FindsFalse : Book → Interpretation → List ℕ → Option ℕ → Type 0
 FindsFalse bk i list r = (o : Preference) (f : Fits i o) → Sets (meant i o f) bk list → FirstFalse (meant i o f) bk r
 

@@ -20,8 +20,9 @@ impl Blank for u32 {
 }
 
 // The list is lent by the caller, so it goes beside the view and is no part of it.
-// Fills the list bottom up with the set of each node, and with zeros behind; only with zeros where it has
-// not a place for each node.
+// Fills the list bottom up with the mask of each node, and with zeros behind; only with zeros where it has not a place
+// for each node. The masks are sets of a model only where the order has the view's size, as `show` sees to; each is the
+// one that its node's operands give for every order.
 pub fn fill<B: ReadableBook, O: Order>(
     book: &B,
     view: &View,

@@ -73,7 +73,7 @@ impl TryFrom<u8> for Op {
 
 impl Op {
     // What its second operand names.
-    pub fn second(self) -> Operand
+    pub(crate) fn second(self) -> Operand
         ensures { result ≡ operand_of self }
     {
         match self {

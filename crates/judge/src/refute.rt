@@ -1,5 +1,7 @@
 // A tableau is worked, and refutes its book or is refused.
+ghost use Rattle.std.specs.Prelude.{IfErr};
 ghost use Rattle.judge.specs.Blanks.{lengths, lengths_of, AllBlank, NoneInUse, SameLists};
+ghost use Rattle.judge.specs.Faults.{Told};
 ghost use Rattle.judge.specs.Steps.{decoded};
 ghost use Rattle.judge.specs.Taking.{Worked};
 ghost use Rattle.judge.specs.Refutations.{RefuteAnswer};
@@ -45,8 +47,8 @@ fn work<B: ReadableBook, W: Watch>(
 // Works a tableau over the book, in three lent lists, before the eyes of one who watches. It is accepted
 // exactly when the bytes are the writing of a closed tableau over the book, within the limits, that fits
 // the lists; then the answer is the set of the entries that it names, and no finite preferential model
-// makes them true. Else the answer is the first refusal that has a reason. Whatever the lists held, they
-// are blank afterwards.
+// makes them true. Else the answer is the first refusal that has a reason, with its number and its place.
+// Whatever the lists held, they are blank afterwards.
 pub fn refute_watched<B: ReadableBook, W: Watch>(
     book: &B,
     bytes: &[u8],
@@ -56,6 +58,7 @@ pub fn refute_watched<B: ReadableBook, W: Watch>(
     watch: &mut W,
 ) -> Result<Used, RefuteFault>
     ensures answer { RefuteAnswer (B.ReadableBook.meaning book.now) (lengths constraints.old edges.old splits.old) bytes.now result }
+    ensures told { IfErr result (Told bytes.now) }
     ensures blank { AllBlank (lengths constraints.old edges.old splits.old) constraints.new edges.new splits.new }
 {
     let mut lists = Lists {
@@ -82,6 +85,7 @@ pub fn refute<B: ReadableBook>(
     splits: &mut [Split],
 ) -> Result<Used, RefuteFault>
     ensures answer { RefuteAnswer (B.ReadableBook.meaning book.now) (lengths constraints.old edges.old splits.old) bytes.now result }
+    ensures told { IfErr result (Told bytes.now) }
     ensures blank { AllBlank (lengths constraints.old edges.old splits.old) constraints.new edges.new splits.new }
 {
     refute_watched(book, bytes, constraints, edges, splits, &mut Unwatched)

@@ -1,7 +1,9 @@
 // Shows that an interpretation and an order are a model of a book.
 ghost use Rattle.std.specs.Prelude.{length};
+ghost use Rattle.logic.specs.Books.{line_at};
+ghost use Rattle.models.specs.Fields.{FirstWithout};
 ghost use Rattle.models.specs.Held.{held};
-ghost use Rattle.judge.specs.Shows.{TellsFailing, FindsFalse, ShowPromise};
+ghost use Rattle.judge.specs.Shows.{TrueIfLive, TellsFailing, FindsFalse, ShowPromise};
 
 use crate::fill::fill;
 use crate::lists::clear;
@@ -12,16 +14,18 @@ use models::truth::is_true;
 use models::view::View;
 use orders::order::Order;
 
-// Whether the entry is live and false, where the list has the set of each node of its book.
+// Whether the entry is live and false, by the masks of the list.
 fn fails(view: &View, list: &[u32], line: Line) -> bool
     ensures { TellsFailing (held view.now) list.now line result }
 {
     line.live && !is_true(view, list, line.entry)
 }
 
-// The lowest live entry that is false, where the list has the set of each node.
-pub fn first_false<B: ReadableBook>(book: &B, view: &View, list: &[u32]) -> Option<u16>
-    ensures { FindsFalse (B.meaning book.now) (held view.now) list.now result }
+// The lowest live entry that is false by the masks of the list, whatever they are. Where the list has the set of each
+// node, it is the lowest that is false in the model that the view means, with whatever order.
+pub(crate) fn first_false<B: ReadableBook>(book: &B, view: &View, list: &[u32]) -> Option<u16>
+    ensures lowest { FirstWithout (λ k. TrueIfLive (held view.now) list.now (line_at (B.meaning book.now) k)) (length (B.meaning book.now).lines) result }
+    ensures found { FindsFalse (B.meaning book.now) (held view.now) list.now result }
 {
     (0..book.entry_count()).find(|i| fails(view, list, book.entry_at(*i)))
 }

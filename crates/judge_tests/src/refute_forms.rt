@@ -1,4 +1,4 @@
-// Every op on every form and kind of node.
+// Every op on every form and kind of node, and each wrong operand.
 use crate::refuted::{Room, add_step, judged};
 use books::book::EditableBook;
 use books::slot_table::SlotTable;
@@ -7,22 +7,24 @@ use std::alloc::{AllocError, Global};
 use std::process::Abort;
 use std::test::Fail;
 
-// By number, as records are offered.
-// The kinds of nodes 0 to 8: a name, top, bottom, not, and, or, all, some and T, of the name.
-const KINDS: [u8; 9] = [2, 0, 1, 3, 4, 5, 6, 7, 8];
+// By number, as records and hand-ins are written: the tables are apart from the crate's own types.
+// The kinds of nodes 0 to 7: a name, top, bottom, not, and, or, all and some, of the name.
+const KINDS: [u8; 8] = [2, 0, 1, 3, 4, 5, 6, 7];
 
-// Individual 0 holds each of the nodes, and the negation of each, which are nodes 9 to 17. Role 0 leads
-// from individual 0 to 1.
+// Nodes 0 to 7 are of those kinds, 8 to 15 are T of each, and 16 to 31 the negations of 0 to 15. Entries 0 to 31 say
+// that individual 0 holds each node, 32 that role 0 leads from it to individual 1, and 33 that the name is in top.
 fn book_of_all_kinds(rt: &impl Abort, heap: Global) -> Result<SlotTable, Fail> {
     let mut book: SlotTable = EditableBook::new(heap)?;
     for kind in KINDS {
         assert!(rt; book.node(RawNode { kind, a: 0, b: 0 }).is_ok());
     }
-    for a in 0..9 {
-        let not = RawNode { kind: 3, a, b: 0 };
-        assert!(rt; book.node(not).is_ok());
+    for a in 0..8 {
+        assert!(rt; book.node(RawNode { kind: 8, a, b: 0 }).is_ok());
     }
-    for b in 0..18 {
+    for a in 0..16 {
+        assert!(rt; book.node(RawNode { kind: 3, a, b: 0 }).is_ok());
+    }
+    for b in 0..32 {
         let fact = RawEntry {
             kind: 2,
             a: 0,
@@ -38,107 +40,152 @@ fn book_of_all_kinds(rt: &impl Abort, heap: Global) -> Result<SlotTable, Fail> {
         c: 1,
     };
     assert!(rt; book.enter(leads).is_ok());
+    let inclusion = RawEntry {
+        kind: 1,
+        a: 0,
+        b: 1,
+        c: 0,
+    };
+    assert!(rt; book.enter(inclusion).is_ok());
     Ok(book)
 }
 
-// Constraints 0 to 8 hold the nodes, 9 to 17 their negations, and 18 to 26 fail the nodes. 27 holds the
-// name, 28 bars it and 29 admits it. Edge 0 is by role 0, and edge 1 to a better element.
+// A branch with the four forms on each node without T, and with holds and fails on each of the others.
 fn branch_of_all_forms(heap: Global) -> Result<Vec<u8>, AllocError> {
     let mut bytes = Vec::new(heap);
-    for entry in 0..19 {
+    for entry in 0..33 {
         add_step(&mut bytes, 1, entry, 0)?;
     }
-    for negation in 9..18 {
+    for negation in 16..32 {
         add_step(&mut bytes, 3, negation, 0)?;
     }
-    add_step(&mut bytes, 8, 8, 0)?;
-    add_step(&mut bytes, 9, 26, 0)?;
-    add_step(&mut bytes, 12, 0, 29)?;
-    add_step(&mut bytes, 10, 29, 0)?;
+    for typical in 8..16 {
+        add_step(&mut bytes, 8, typical, 0)?;
+    }
+    // each split's first branch closes at once
+    for k in 0..8u16 {
+        add_step(&mut bytes, 9, 40 + k, 0)?;
+        add_step(&mut bytes, 12, k, 64 + k)?;
+    }
+    add_step(&mut bytes, 10, 64, 0)?;
     Ok(bytes)
 }
 
-// The number of steps of that branch.
-const STEPS: usize = 32;
+// The number of its steps, and of the constraints at individual 0. Two more stand at label 32.
+const STEPS: usize = 74;
 
-// By number, as hand-ins write them: the table is apart from the crate's own types.
-// Operand b at which an op can fit: edge 0, edge 1, or the constraint that fails the name.
-fn operand(op: u8) -> u16 {
-    match op {
-        7 => 0,
-        11 => 1,
-        12 => 18,
-        _ => 0,
+const CONSTRAINTS: u16 = 72;
+
+const HOLDS: u8 = 0;
+
+const FAILS: u8 = 1;
+
+const BARS: u8 = 2;
+
+const ADMITS: u8 = 3;
+
+// The form and the node of constraint a.
+fn constraint(a: u16) -> (u8, u16) {
+    match a {
+        0..=31 => (HOLDS, a),
+        32..=47 => (FAILS, a - 32),
+        48..=63 if a % 2 == 0 => (HOLDS, (a - 48) / 2),
+        48..=63 => (BARS, (a - 48) / 2),
+        _ => (ADMITS, a.saturating_sub(64)),
     }
 }
 
-// Whether the op fits constraint a.
-fn fits(op: u8, a: u16) -> bool {
-    matches!(
-        (op, a),
-        (3, 3 | 9..=17 | 21)
-            | (4, 4 | 23)
-            | (5, 5 | 22)
-            | (6, 7 | 24)
-            | (7, 6 | 25)
-            | (8, 8)
-            | (9, 26)
-            | (10, 29)
-            | (11, 28)
-            | (12, 0 | 27)
-            | (13, 2 | 19)
-    )
+fn kind(node: u16) -> u8 {
+    match node {
+        8..=15 => 8,
+        16..=31 => 3,
+        _ => KINDS.get(node as usize).copied().unwrap_or(255),
+    }
 }
 
+// Whether the op fits constraint a, with edge or constraint b. Edge 0 is by role 0, and edge 1 to a better element.
+fn fits(op: u8, a: u16, b: u16) -> bool {
+    let (form, node) = constraint(a);
+    match (op, form, kind(node)) {
+        (3, HOLDS | FAILS, 3) => true,
+        (4, HOLDS, 4) | (4, FAILS, 5) => true,
+        (5, HOLDS, 5) | (5, FAILS, 4) => true,
+        (6, HOLDS, 7) | (6, FAILS, 6) => true,
+        (7, HOLDS, 6) | (7, FAILS, 7) => b == 0,
+        (8, HOLDS, 8) => true,
+        (9, FAILS, 8) => true,
+        (10, ADMITS, _) => true,
+        (11, BARS, _) => b == 1,
+        (12, HOLDS, _) => constraint(b) == (FAILS, node),
+        (12, BARS, _) => constraint(b) == (ADMITS, node),
+        (13, HOLDS, 1) | (13, FAILS, 0) => true,
+        _ => false,
+    }
+}
+
+// How many operands b the op is tried with.
+fn operands(op: u8) -> u16 {
+    match op {
+        7 | 11 => 2,
+        12 => CONSTRAINTS,
+        _ => 1,
+    }
+}
+
+const ROOM: Room = Room {
+    constraints: 76,
+    edges: 3,
+    splits: 1,
+};
+
+// Ops 3 to 13 on each constraint, with each edge or constraint that they can name.
 #[test]
 fn an_op_fits_its_row_alone(rt: HostRuntime) -> Result<(), Fail> {
     let heap = rt.alloc();
     let book = book_of_all_kinds(&rt, heap)?;
-    let room = Room {
-        constraints: 40,
-        edges: 3,
-        splits: 1,
-    };
+    let mut bytes = branch_of_all_forms(heap)?;
     for op in 3..14u8 {
-        for a in 0..30u16 {
-            let mut bytes = branch_of_all_forms(heap)?;
-            add_step(&mut bytes, op, a, operand(op))?;
-            let answer = judged(heap, &book, &bytes, room)?;
-            assert_eq!(rt; answer == Err((10, STEPS)), !fits(op, a));
+        for a in 0..CONSTRAINTS {
+            for b in 0..operands(op) {
+                add_step(&mut bytes, op, a, b)?;
+                let answer = judged(heap, &book, &bytes, ROOM)?;
+                assert_eq!(rt; answer == Err((10, STEPS)), !fits(op, a, b));
+                bytes.truncate(5 * STEPS);
+            }
         }
     }
     Ok(())
 }
 
-// What a step names, and how it is written.
+// What a step names, and how it is written: ops 1 and 2 on each kind of entry, and constraints and edges of two labels.
 #[test]
-fn operands(rt: HostRuntime) -> Result<(), Fail> {
+fn wrong_operands(rt: HostRuntime) -> Result<(), Fail> {
     let heap = rt.alloc();
     let book = book_of_all_kinds(&rt, heap)?;
-    let room = Room {
-        constraints: 40,
-        edges: 3,
-        splits: 1,
-    };
-    let bad: [(u8, u16, u16, u8); 12] = [
+    let mut bytes = branch_of_all_forms(heap)?;
+    let bad: [(u8, u16, u16, u8); 16] = [
         (0, 0, 0, 8),
         (14, 0, 0, 8),
         (1, 0, 1, 8),
         (13, 99, 1, 8),
-        (1, 19, 0, 9),
-        (2, 19, 0, 9),
-        (3, 32, 0, 9),
-        (7, 6, 2, 9),
-        (12, 0, 32, 9),
+        (1, 34, 0, 9),
+        (2, 34, 0, 9),
         (1, 300, 0, 9),
-        (2, 0, 33, 9),
+        (2, 33, 33, 9),
+        (3, 74, 0, 9),
+        (7, 6, 2, 9),
+        (12, 0, 74, 9),
+        (1, 33, 0, 10),
         (2, 0, 0, 10),
+        (2, 32, 0, 10),
+        (11, 73, 1, 10),
+        (12, 72, 32, 10),
     ];
     for (op, a, b, number) in bad {
-        let mut bytes = branch_of_all_forms(heap)?;
         add_step(&mut bytes, op, a, b)?;
-        let answer = judged(heap, &book, &bytes, room)?;
+        let answer = judged(heap, &book, &bytes, ROOM)?;
         assert_eq!(rt; answer, Err((number, STEPS)));
+        bytes.truncate(5 * STEPS);
     }
     Ok(())
 }

@@ -1,11 +1,13 @@
 -- Which elements a mask has that is gathered from a property. Assumes nothing.
-use Rattle.std.proofs.Common.{◌≡◌, ℕ, ◌<◌, ◌≤◌, min, Bool, true, not, ◌&&◌, Decides, ap, ◌∙◌, arith}
-use Rattle.std.proofs.lemmas.Bool.{not-true, not_from_false, and_parts, and_from, both_ways}
-use Rattle.std.proofs.lemmas.Bool.Decides.{Decides-at, Decides-like, Decides-and, Decides-ltb}
+use Rattle.std.proofs.Common.{◌≡◌, ℕ, ◌<◌, ◌≤◌, min, Bool, true, not, ◌&&◌, Decides, sym, ap, ◌∙◌, inl, inr, arith}
+use Rattle.std.proofs.lemmas.Bool.{cases_Bool, not-true, not_from_false, and_parts, and_from, lt-ltb, both_ways}
+use Rattle.std.proofs.lemmas.Bool.Decides.{Decides-at, Decides-like, Decides-not, Decides-and, Decides-ltb}
 use Rattle.orders.specs.Masks.{has, mask_of, meeting, Preference, Strict}
 use Rattle.orders.proofs.MaskBits.{mask_has, meeting_decides, never}
 use Rattle.models.specs.Interpretations.{Interpretation}
-use Rattle.models.specs.Extensions.{Leading, BestOf}
+use Rattle.models.specs.Fields.{role, Valid}
+use Rattle.models.specs.Extensions.{Complement, Leading, BestOf}
+use Rattle.models.specs.NodeMasks.{LeadingOnly}
 
 -- an element is in the mask exactly where it is below the size and has the property
 gathered_decides : {Q : Type 0} (p : ℕ → Bool) (n mask x : ℕ) → n ≤ 32 → mask ≡ mask_of p (min n 32) → Decides (p x) Q → Decides (has mask x) ((x < n) × Q)
@@ -15,6 +17,21 @@ gathered_decides p n mask x few e d =
 
 pub leading_means : (i : Interpretation) → i.size ≤ 32 → (r set mask : ℕ) → mask ≡ mask_of (λ x. meeting (i.led r x) set) (min i.size 32) → Leading i r set mask
 leading_means i few r set mask e x = gathered_decides (λ x. meeting (i.led r x) set) i.size mask x few e (meeting_decides (i.led r x) set)
+
+-- what is not in the elements that lead out of a set are those that lead only into it
+pub only_means : (i : Interpretation) → Valid i → (r set out some mask : ℕ) → Complement i set out → Leading i r out some → Complement i some mask → LeadingOnly i r set mask
+only_means i valid r set out some mask outside leads rest x =
+    let n = i.size in
+    Decides-like (has mask x)
+    (λ p. (
+      p.0,
+      λ y t. elim (cases_Bool (has set y)) [
+        | inl e ↦ e
+        | inr e ↦ absurd (p.1 (p.0, (y, t, outside y ∙ and_from _ _ (lt-ltb y n ((valid (role r x)).0 y t)) (not_from_false _ e))))
+      ],
+    ))
+    (λ p. (p.0, λ q. both_ways _ (not-true _ (and_parts _ _ (sym (outside q.1.0) ∙ q.1.2)).1) (p.1 q.1.0 q.1.1)))
+    (Decides-at _ _ (rest x) (Decides-and _ _ (Decides-ltb x n) (Decides-not _ (leads x))))
 
 pub best_means : (o : Preference) → Strict o → (set mask : ℕ) → mask ≡ mask_of (λ x. has set x && not (meeting (o.better x) set)) (min o.size 32) → BestOf o set mask
 best_means o s set mask e x =

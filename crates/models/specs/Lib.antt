@@ -10,6 +10,8 @@ pub mod Held
 pub mod Meanings
 -- the elements in a concept, as masks
 pub mod Extensions
+-- masks from masks, for every list
+pub mod NodeMasks
 -- the number and the place of each fault
 pub mod Faults
 -- what reading an interpretation answers

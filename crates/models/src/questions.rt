@@ -13,14 +13,14 @@ impl View {
     }
 
     // The set of a name; empty past the last.
-    pub fn name(&self, a: u16) -> u32
+    pub(crate) fn name(&self, a: u16) -> u32
         ensures { result ≡ (held self.now).names a }
     {
         self.tables.names.get(a as usize).copied().unwrap_or(0)
     }
 
     // The elements to which a role leads from element x; none past the last role or element.
-    pub fn led_to(&self, role: u16, x: u8) -> u32
+    pub(crate) fn led_to(&self, role: u16, x: u8) -> u32
         ensures { result ≡ (held self.now).led role x }
     {
         let row = self.tables.roles.get(role as usize);
@@ -31,7 +31,7 @@ impl View {
 
     // The element of an individual; 0 past the last. Not one function with `name`: each is one line, over a table
     // of its own.
-    pub fn element(&self, individual: u16) -> u8
+    pub(crate) fn element(&self, individual: u16) -> u8
         ensures { result ≡ (held self.now).individual individual }
     {
         self.tables

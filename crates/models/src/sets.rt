@@ -3,6 +3,7 @@ ghost use Rattle.std.specs.Prelude.{◌≡◌, not, ◌&&◌, slice_index};
 ghost use Rattle.orders.specs.Masks.{has, meeting};
 ghost use Rattle.models.specs.Held.{held};
 ghost use Rattle.models.specs.Extensions.{SetOfNode, Complement, Leading, BestOf};
+ghost use Rattle.models.specs.NodeMasks.{LeadingOnly, MaskOfNode};
 
 use crate::view::View;
 use logic::records::Node;
@@ -10,7 +11,7 @@ use orders::masks::{Property, all_below, contains, mask_of, meets, without};
 use orders::order::Order;
 
 // Set i of the list; empty past the end.
-pub fn set_at(list: &[u32], i: u16) -> u32
+pub(crate) fn set_at(list: &[u32], i: u16) -> u32
     ensures { result ≡ slice_index list.now i }
 {
     list.get(i as usize).copied().unwrap_or(0)
@@ -62,6 +63,13 @@ fn leading(view: &View, role: u16, set: u32) -> u32
     mask_of(&Led { view, role, set }, view.size())
 }
 
+// The elements from which the role leads only into the set: those from which it does not lead out of it.
+fn leading_only(view: &View, role: u16, set: u32) -> u32
+    ensures { LeadingOnly (held view.now) role set result }
+{
+    complement(view, leading(view, role, complement(view, set)))
+}
+
 // The typical elements of a set: those elements of the order in it than which no better one is in it.
 pub fn typical<O: Order>(order: &O, set: u32) -> u32
     ensures { BestOf (O.meaning order.now) set result }
@@ -69,10 +77,12 @@ pub fn typical<O: Order>(order: &O, set: u32) -> u32
     mask_of(&Best { order, set }, order.size())
 }
 
-// The set of a node's concept, where the list has the sets of the concepts of the nodes before it. The list goes
-// beside the view and is no part of it, since the caller lends it.
+// The mask of a node, from those that the list has for its operands, whatever they are. Where the list has the sets of
+// the concepts of the nodes before it, and the order is one of the view's elements, it is the set of the node's concept.
+// The list goes beside the view and is no part of it, since the caller lends it.
 pub fn extension<O: Order>(view: &View, order: &O, list: &[u32], node: Node) -> u32
-    ensures { SetOfNode (held view.now) (O.meaning order.now) list.now node result }
+    ensures mask { MaskOfNode (held view.now) (O.meaning order.now) list.now node result }
+    ensures set { SetOfNode (held view.now) (O.meaning order.now) list.now node result }
 {
     match node {
         Node::Top => all_below(view.size()),
@@ -81,10 +91,7 @@ pub fn extension<O: Order>(view: &View, order: &O, list: &[u32], node: Node) -> 
         Node::Not(c) => complement(view, set_at(list, c)),
         Node::And(c, d) => set_at(list, c) & set_at(list, d),
         Node::Or(c, d) => set_at(list, c) | set_at(list, d),
-        Node::All(role, c) => complement(
-            view,
-            leading(view, role, complement(view, set_at(list, c))),
-        ),
+        Node::All(role, c) => leading_only(view, role, set_at(list, c)),
         Node::Exists(role, c) => leading(view, role, set_at(list, c)),
         Node::Typical(c) => typical(order, set_at(list, c)),
         Node::Absent => 0,

@@ -3,4 +3,4 @@ use Rattle.judge.proofs.ShowFill.{FilledTo}
 use Rattle.judge.proofs.fill.fill.Given as goal
 
 abbrev pub invariant-loop-i : goal.invariant-loop-i
-invariant-loop-i g l = FilledTo (g.B.ReadableBook.meaning l.book) (held l.view) (g.O.Order.meaning l.order) l.i l.list
+invariant-loop-i g l = FilledTo (g.B.ReadableBook.meaning l.book) (g.B.ReadableBook.lawful l.book).well_formed (held l.view) (g.O.Order.meaning l.order) l.i l.list

@@ -14,7 +14,7 @@ returns-in-Some g c =
     let list = c.fill.new.list in
     promised bk bs o list (g.B.ReadableBook.lawful c.args.book.now).well_formed _ _ (omega arith)
     (at_entry bk (held v) o list bs read.0 read.1 (held_valid v) (g.O.Order.strict c.args.order.now)
-    (sym c.size-size.ensures ∙ c.if-size.false ∙ c.size.ensures) c.in_ok-fill.ensures c.in-Some.i c.in-Some.ensures)
+    (sym c.size-size.ensures ∙ c.if-size.false ∙ c.size.ensures) c.in_ok-fill.ensures c.in-Some.i c.in-Some.ensures.found)
 
 pub returns-in-None : goal.returns-in-None
 returns-in-None g c =
@@ -26,4 +26,4 @@ returns-in-None g c =
     let list = c.fill.new.list in
     promised bk bs o list (g.B.ReadableBook.lawful c.args.book.now).well_formed _ _ (omega arith)
     (at_model bk (held v) o list bs read.0 read.1 (held_valid v) (g.O.Order.strict c.args.order.now)
-    (sym c.size-size.ensures ∙ c.if-size.false ∙ c.size.ensures) c.in_ok-fill.ensures c.in-None.ensures c.size-size.result (c.if-size.false ∙ c.size.ensures))
+    (sym c.size-size.ensures ∙ c.if-size.false ∙ c.size.ensures) c.in_ok-fill.ensures c.in-None.ensures.found c.size-size.result (c.if-size.false ∙ c.size.ensures))

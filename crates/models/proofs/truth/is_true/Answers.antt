@@ -1,16 +1,16 @@
-use Rattle.std.proofs.Common.{◌≡◌, Decides, get_or, sym, subst}
-use Rattle.std.proofs.lemmas.Bool.Decides.{Decides-at, Decides-like}
-use Rattle.logic.specs.Satisfaction.{HoldsIn}
+use Rattle.std.proofs.Common.{◌≡◌, Decides, get_or, sym, ◌∙◌, subst}
+use Rattle.std.proofs.lemmas.Bool.Decides.{Decides-like}
 use Rattle.orders.specs.Masks.{has}
-use Rattle.models.specs.Fields.{individual}
 use Rattle.models.specs.Held.{held}
-use Rattle.models.specs.Meanings.{meant}
+use Rattle.models.specs.NodeMasks.{TrueByMasks}
+use Rattle.models.proofs.ConceptSets.{truth_of_masks}
 use Rattle.models.proofs.truth.is_true.Goals as goal
 
-pub returns-in-Fact : goal.returns-in-Fact
-returns-in-Fact c = λ o f bk h.
-    let m = meant (held c.args.view.now) o f in
-    let e = h c.in-Fact.c (m.individual c.in-Fact.x) in
-    let told : c.contains.result ≡ has (get_or c.args.list.now c.in-Fact.c 0) (m.individual c.in-Fact.x) = cc in
-    subst (λ e. Decides c.contains.result (HoldsIn m bk e)) (sym c.in-Fact.is)
-    (Decides-at _ _ told (Decides-like _ (λ p. p.1) (λ u. (f.valid (individual c.in-Fact.x), u)) e))
+pub returns-in-Fact-clause-truth : goal.returns-in-Fact-clause-truth
+returns-in-Fact-clause-truth c =
+    let i = held c.args.view.now in
+    let list = c.args.list.now in
+    let test = c.contains.result in
+    let told : test ≡ has (get_or list c.in-Fact.c 0) (i.individual c.in-Fact.x) = cc in
+    let masks = subst (λ e. Decides test (TrueByMasks i list e)) (sym c.in-Fact.is) (λ t. sym told ∙ t, λ t. told ∙ t) in
+    λ o f bk s. let same = truth_of_masks i o f bk list s c.args.entry in Decides-like test same.0 same.1 masks
