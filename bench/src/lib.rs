@@ -3,3 +3,4 @@
 pub mod coverage;
 pub mod hand_ins;
 pub mod reference;
+pub mod workloads;

@@ -1,6 +1,12 @@
 //! Commands over random hand-ins. `bench help` lists them.
 
+#[cfg(feature = "proved")]
+mod compare;
 mod folders;
+#[cfg(feature = "proved")]
+mod proved;
+#[cfg(feature = "proved")]
+mod speed;
 
 use std::path::Path;
 use std::process::ExitCode;
@@ -10,6 +16,8 @@ use bench::hand_ins::hand_in;
 
 const HELP: &str = "\
 bench coverage        marks random hand-ins by the plain marker, and counts what they reach
+bench compare         marks random hand-ins by the plain and by the proved marker, and compares the lines
+bench speed           measures both
 bench hand-ins DIR    writes random hand-ins as folders, each with the line that is expected of the marker
 
 --number N            so many hand-ins
@@ -52,6 +60,14 @@ fn coverage(seed: u64, number: u64) -> Result<(), String> {
     all_reached(&coverage, number)
 }
 
+#[cfg(feature = "proved")]
+fn compare(seed: u64, number: u64) -> Result<(), String> {
+    println!("seed {seed}");
+    let coverage = compare::compare(seed, number)?;
+    print!("{coverage}");
+    all_reached(&coverage, number)
+}
+
 /// So many hand-ins have to reach all that is counted; fewer may miss some.
 const REACHING: u64 = 100_000;
 
@@ -73,7 +89,11 @@ fn run() -> Result<(), String> {
     let options = options(std::env::args().skip(1))?;
     let words: Vec<&str> = options.words.iter().map(String::as_str).collect();
     match words[..] {
-        ["coverage"] => coverage(options.seed, options.number.unwrap_or(100_000)),
+        ["coverage"] => coverage(options.seed, options.number.unwrap_or(REACHING)),
+        #[cfg(feature = "proved")]
+        ["compare"] => compare(options.seed, options.number.unwrap_or(REACHING)),
+        #[cfg(feature = "proved")]
+        ["speed"] => speed::speed(options.seed),
         ["hand-ins", folder] => folders::write(Path::new(folder), options.seed, options.number.unwrap_or(1_000))
             .map_err(|error| format!("{folder}: {error}")),
         [] | ["help"] => {

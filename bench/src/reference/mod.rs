@@ -12,6 +12,7 @@ pub mod order;
 pub mod records;
 pub mod refusal;
 pub mod refute;
+pub mod repeat;
 pub mod sealed;
 pub mod show;
 pub mod slot_table;

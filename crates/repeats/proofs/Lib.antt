@@ -1,0 +1,2 @@
+-- a copy grows as the book goes on
+pub mod Copying

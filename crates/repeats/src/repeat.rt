@@ -1,0 +1,193 @@
+// A hand-in judged again and again against one book.
+ghost use Rattle.std.specs.Prelude.{◌≡◌, MatchOption};
+ghost use Rattle.verdict.specs.Marks.{TableauAnswer, ModelAnswer};
+ghost use Rattle.repeats.specs.Outcomes.{InMemory, outcome_of, RefutedBy, SatisfiedBy, TableauTold, ModelTold};
+
+use crate::copy::copied;
+use books::book::ReadableBook;
+use books::journal::Journal;
+use books::slot_table::SlotTable;
+use judge::lists::Blank;
+use judge::refute::refute;
+use judge::show::show;
+use logic::refusal::told;
+use orders::order::Order;
+use orders::pairs::Pairs;
+use sealed::sealed_book::SealedBook;
+use std::alloc::Global;
+use verdict::mark_fault::MarkFault;
+
+// How many records each working list has.
+const RECORDS: usize = 4096;
+
+// What came of a hand-in, as it crosses to C.
+#[repr(C)]
+#[derive(Clone, Copy)]
+pub struct Outcome {
+    // 0 where there was no memory for the book, 1 accepted, 2 refused
+    pub kind: u32,
+    // entries used, or elements; or the number of the refusal
+    pub number: u32,
+    // the place of the refusal, otherwise 0
+    pub place: usize,
+}
+
+// Judges a tableau so many times, and once more for the answer.
+fn refuted<B: ReadableBook>(book: &B, steps: &[u8], times: u32) -> Result<u16, MarkFault>
+    ensures { RefutedBy (B.meaning book.now) steps.now result }
+{
+    let mut constraints = [Blank::blank(); RECORDS];
+    let mut edges = [Blank::blank(); RECORDS];
+    let mut splits = [Blank::blank(); RECORDS];
+    for _ in 0..times {
+        let _ = refute(book, steps, &mut constraints, &mut edges, &mut splits);
+    }
+    let used = refute(book, steps, &mut constraints, &mut edges, &mut splits)?;
+    Ok(used.count())
+}
+
+// The same of a model.
+fn satisfied<B: ReadableBook, O: Order>(
+    book: &B,
+    model: &[u8],
+    order: &O,
+    times: u32,
+) -> Result<u8, MarkFault>
+    ensures { SatisfiedBy (B.meaning book.now) model.now (O.meaning order.now) result }
+{
+    let mut sets = [0; RECORDS];
+    for _ in 0..times {
+        let _ = show(book, model, order, &mut sets);
+    }
+    Ok(show(book, model, order, &mut sets)?)
+}
+
+fn accepted(number: u32) -> Outcome
+    ensures { result ≡ outcome_of (Ok number) }
+{
+    Outcome {
+        kind: 1,
+        number,
+        place: 0,
+    }
+}
+
+fn refused(fault: MarkFault) -> Outcome
+    ensures { result ≡ outcome_of (Err fault) }
+{
+    let (number, place) = told(&fault);
+    Outcome {
+        kind: 2,
+        number: number as u32,
+        place,
+    }
+}
+
+const NO_MEMORY: Outcome = Outcome {
+    kind: 0,
+    number: 0,
+    place: 0,
+};
+
+// How a book is kept; any other number is as the first.
+const SLOT_TABLE: u8 = 1;
+
+const JOURNAL: u8 = 2;
+
+// What the marker answers to a tableau, or nothing where there is no memory.
+fn tableau(
+    heap: Global,
+    kept: u8,
+    times: u32,
+    book: &[u8],
+    steps: &[u8],
+) -> Option<Result<u16, MarkFault>>
+    ensures { MatchOption result (InMemory kept) (TableauAnswer book.now steps.now) }
+{
+    let sealed = match SealedBook::read(book) {
+        Ok(sealed) => sealed,
+        Err(fault) => return Some(Err(MarkFault::Check(fault))),
+    };
+    Some(match kept {
+        SLOT_TABLE => refuted(
+            &copied::<SealedBook, SlotTable>(heap, &sealed)?,
+            steps,
+            times,
+        ),
+        JOURNAL => refuted(&copied::<SealedBook, Journal>(heap, &sealed)?, steps, times),
+        _ => refuted(&sealed, steps, times),
+    })
+}
+
+// What the marker answers to a model, or nothing where there is no memory.
+fn model(
+    heap: Global,
+    kept: u8,
+    times: u32,
+    book: &[u8],
+    bytes: &[u8],
+    pairs: &[u8],
+) -> Option<Result<u8, MarkFault>>
+    ensures { MatchOption result (InMemory kept) (ModelAnswer book.now bytes.now pairs.now) }
+{
+    let sealed = match SealedBook::read(book) {
+        Ok(sealed) => sealed,
+        Err(fault) => return Some(Err(MarkFault::Check(fault))),
+    };
+    let mut order = Pairs::new();
+    if let Err(fault) = order.fill(pairs) {
+        return Some(Err(MarkFault::Pairs(fault)));
+    }
+    Some(match kept {
+        SLOT_TABLE => satisfied(
+            &copied::<SealedBook, SlotTable>(heap, &sealed)?,
+            bytes,
+            &order,
+            times,
+        ),
+        JOURNAL => satisfied(
+            &copied::<SealedBook, Journal>(heap, &sealed)?,
+            bytes,
+            &order,
+            times,
+        ),
+        _ => satisfied(&sealed, bytes, &order, times),
+    })
+}
+
+// Judges a tableau `times` times and once more, against the sealed book in a slot table, in a journal or as it is.
+#[unsafe(no_mangle)]
+pub extern "C" fn vuhlaten_repeat_tableau(
+    heap: Global,
+    kept: u8,
+    times: u32,
+    book: &[u8],
+    steps: &[u8],
+) -> Outcome
+    ensures { TableauTold kept book.now steps.now result }
+{
+    match tableau(heap, kept, times, book, steps) {
+        Some(Ok(entries)) => accepted(entries as u32),
+        Some(Err(fault)) => refused(fault),
+        None => NO_MEMORY,
+    }
+}
+
+// The same of a model, with its "better" in pairs.
+#[unsafe(no_mangle)]
+pub extern "C" fn vuhlaten_repeat_model(
+    heap: Global,
+    kept: u8,
+    times: u32,
+    book: &[u8],
+    bytes: &[u8],
+    pairs: &[u8],
+) -> Outcome
+    ensures { ModelTold kept book.now bytes.now pairs.now result }
+{
+    match model(heap, kept, times, book, bytes, pairs) {
+        Some(Ok(elements)) => accepted(elements as u32),
+        Some(Err(fault)) => refused(fault),
+        None => NO_MEMORY,
+    }
+}
