@@ -1,6 +1,8 @@
 //! Commands over random hand-ins. `bench help` lists them.
 
 #[cfg(feature = "proved")]
+mod clock;
+#[cfg(feature = "proved")]
 mod compare;
 mod folders;
 #[cfg(feature = "proved")]
@@ -17,7 +19,7 @@ use bench::hand_ins::hand_in;
 const HELP: &str = "\
 bench coverage        marks random hand-ins by the plain marker, and counts what they reach
 bench compare         marks random hand-ins by the plain and by the proved marker, and compares the lines
-bench speed           measures both
+bench speed [WORD]    measures both; with a word, only the rows that have it
 bench hand-ins DIR    writes random hand-ins as folders, each with the line that is expected of the marker
 
 --number N            so many hand-ins
@@ -93,7 +95,9 @@ fn run() -> Result<(), String> {
         #[cfg(feature = "proved")]
         ["compare"] => compare(options.seed, options.number.unwrap_or(REACHING)),
         #[cfg(feature = "proved")]
-        ["speed"] => speed::speed(options.seed),
+        ["speed"] => speed::speed(options.seed, ""),
+        #[cfg(feature = "proved")]
+        ["speed", word] => speed::speed(options.seed, word),
         ["hand-ins", folder] => folders::write(Path::new(folder), options.seed, options.number.unwrap_or(1_000))
             .map_err(|error| format!("{folder}: {error}")),
         [] | ["help"] => {

@@ -1,7 +1,6 @@
 //! How long the proved marker takes, beside the plain one.
 
 use std::hint::black_box;
-use std::time::{Duration, Instant};
 
 use bench::hand_ins::HandIn;
 use bench::hand_ins::random::Random;
@@ -9,6 +8,7 @@ use bench::reference::repeat::Kept;
 use bench::reference::sealed::SealedBook;
 use bench::workloads::{closed_tableau, contradictory_book, largest_model};
 
+use crate::clock;
 use crate::compare::repeated;
 use crate::proved::{self, Outcome};
 
@@ -21,8 +21,8 @@ const BOOKS: [(usize, usize); 2] = [(24, 12), (512, 256)];
 /// Each is measured in so many turns, the one first that was second in the turn before.
 const TURNS: usize = 25;
 
-/// A turn is to take so long at least.
-const TURN: Duration = Duration::from_millis(2);
+/// A turn is to take so many seconds at least.
+const TURN: f64 = 0.002;
 
 /// Something that both markers do again and again.
 struct Task<'a> {
@@ -44,9 +44,9 @@ impl Measured {
 }
 
 fn seconds(work: &dyn Fn(u32), times: u32) -> f64 {
-    let start = Instant::now();
+    let start = clock::seconds();
     work(times);
-    start.elapsed().as_secs_f64()
+    clock::seconds() - start
 }
 
 fn median(mut values: Vec<f64>) -> f64 {
@@ -59,7 +59,7 @@ fn times_of(work: &dyn Fn(u32)) -> u32 {
     let mut times = 1;
     loop {
         let (alone, all) = (seconds(work, 0), seconds(work, times));
-        if all >= TURN.as_secs_f64() && all >= 10.0 * alone || times > 1 << 24 {
+        if all >= TURN && all >= 10.0 * alone || times > 1 << 24 {
             return times;
         }
         times *= 2;
@@ -136,7 +136,8 @@ fn told(kept: Kept) -> &'static str {
     }
 }
 
-struct Table {
+struct Table<'a> {
+    word: &'a str,
     over: Vec<String>,
 }
 
@@ -144,8 +145,14 @@ struct Table {
 const GOAL: f64 = 1.0;
 const MOST: f64 = 1.5;
 
-impl Table {
-    fn row(&mut self, name: &str, measured: &Measured, growth: Option<(f64, f64)>) {
+impl Table<'_> {
+    /// Measures a task. Growth is beside what was measured before.
+    fn row(&mut self, name: &str, task: &Task, before: Option<&Measured>) -> Option<Measured> {
+        if !name.contains(self.word) {
+            return None;
+        }
+        let measured = measure(task);
+        let growth = before.map(|before| (measured.proved / before.proved, measured.plain / before.plain));
         let ratio = measured.ratio();
         let told = match growth {
             Some((proved, plain)) => format!("{proved:>8.2} {plain:>8.2}"),
@@ -156,20 +163,18 @@ impl Table {
         if ratio > limit {
             self.over.push(format!("{}: {ratio:.2}, wanted at most {limit:.1}", name.trim()));
         }
+        Some(measured)
     }
 }
 
-pub fn speed(seed: u64) -> Result<(), String> {
-    println!(
-        "Microseconds for one time, in the median of {TURNS} turns; both in turn, in one process, on the same bytes."
-    );
-    println!(
-        "Working lists of 4,096 records are lent anew for each whole hand-in, and once for all judgements of a turn;"
-    );
-    println!("each judgement blanks them, in both. The processor's caches are not cleared between two times.");
-    println!("Growth: how many times as long as the tableau of the row before, which is so many times shorter.");
+/// Measures, and prints a row for each task; with a word, those alone whose row has the word.
+pub fn speed(seed: u64, word: &str) -> Result<(), String> {
+    println!("Microseconds of processor time, in the median of {TURNS} turns; both in turn, in one process, on the");
+    println!("same bytes. Working lists of 4,096 records are lent anew for each whole hand-in, and once for all");
+    println!("judgements of a turn; each judgement blanks them, in both. Caches are not cleared between two times.");
+    println!("Growth: how many times as long as the row before, whose tableau has so many times fewer steps.");
     println!("{:<44} {:>11} {:>11} {:>7} {:>8} {:>8}", "", "proved", "plain", "ratio", "growth", "plain's");
-    let mut table = Table { over: Vec::new() };
+    let mut table = Table { word, over: Vec::new() };
     for (nodes, entries) in BOOKS {
         let mut random = Random::new(seed, nodes as u64);
         let book = contradictory_book(&mut random, nodes, entries).sealed();
@@ -188,9 +193,9 @@ pub fn speed(seed: u64) -> Result<(), String> {
     println!("a model of 32 elements of a book of 512 nodes and 256 entries");
     let model = largest_model(seed);
     agree(&model)?;
-    table.row("  whole hand-in", &measure(&whole(&model)), None);
+    table.row("  model, whole hand-in", &whole(&model), None);
     for kept in Kept::ALL {
-        table.row(&format!("  {}", told(kept)), &measure(&judged(&model, kept)), None);
+        table.row(&format!("  model, {}", told(kept)), &judged(&model, kept), None);
     }
     match &table.over[..] {
         [] => println!("all within the goal"),
@@ -199,12 +204,9 @@ pub fn speed(seed: u64) -> Result<(), String> {
     Ok(())
 }
 
-fn rows<'a>(table: &mut Table, hand_ins: &'a [HandIn], name: &str, task: &dyn Fn(&'a HandIn) -> Task<'a>) {
+fn rows<'a>(table: &mut Table<'_>, hand_ins: &'a [HandIn], name: &str, task: &dyn Fn(&'a HandIn) -> Task<'a>) {
     let mut before: Option<Measured> = None;
     for (hand_in, steps) in hand_ins.iter().zip(STEPS) {
-        let measured = measure(&task(hand_in));
-        let growth = before.map(|before| (measured.proved / before.proved, measured.plain / before.plain));
-        table.row(&format!("  {name}, {steps} steps"), &measured, growth);
-        before = Some(measured);
+        before = table.row(&format!("  {name}, {steps} steps"), &task(hand_in), before.as_ref());
     }
 }

@@ -3,12 +3,15 @@
 use super::draft::Draft;
 use super::random::Random;
 
-/// Makes a record of the draft unlawful in one way, where it has one.
+/// Makes a record of the draft unlawful, where it has one. It may be so in several ways, of which one is told first.
 pub fn damage_record(random: &mut Random, draft: &mut Draft) {
-    if draft.entries.is_empty() || (!draft.nodes.is_empty() && random.percent(50)) {
-        damage_node(random, draft);
-    } else {
-        damage_entry(random, draft);
+    let ways = random.pick(&[1, 1, 2, 3]);
+    if !draft.entries.is_empty() && (draft.nodes.is_empty() || random.percent(60)) {
+        let i = random.below(draft.entries.len());
+        (0..ways).for_each(|_| damage_entry(random, draft, i));
+    } else if !draft.nodes.is_empty() {
+        let i = random.below(draft.nodes.len());
+        (0..ways).for_each(|_| damage_node(random, draft, i));
     }
 }
 
@@ -21,12 +24,8 @@ fn over(random: &mut Random, limit: usize) -> u16 {
     }
 }
 
-fn damage_node(random: &mut Random, draft: &mut Draft) {
-    if draft.nodes.is_empty() {
-        return;
-    }
+fn damage_node(random: &mut Random, draft: &mut Draft, i: usize) {
     let plain = draft.plain();
-    let i = random.below(draft.nodes.len());
     let with_typical: Vec<usize> = (0..i).filter(|&j| !plain[j]).collect();
     let node = &mut draft.nodes[i];
     match random.below(10) {
@@ -54,12 +53,11 @@ fn damage_node(random: &mut Random, draft: &mut Draft) {
     }
 }
 
-fn damage_entry(random: &mut Random, draft: &mut Draft) {
+fn damage_entry(random: &mut Random, draft: &mut Draft, i: usize) {
     let plain = draft.plain();
     let count = draft.nodes.len();
     let with_typical: Vec<usize> = (0..count).filter(|&j| !plain[j]).collect();
     let deep: Vec<usize> = with_typical.iter().copied().filter(|&j| draft.nodes[j].kind != 8).collect();
-    let i = random.below(draft.entries.len());
     let entry = &mut draft.entries[i].0;
     match random.below(9) {
         0 => entry.kind = random.pick(&[0, 4, 5, 8, 15, 32, 33, 34, 64, 129, 239]),
