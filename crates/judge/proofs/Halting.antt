@@ -12,25 +12,26 @@ use Rattle.judge.specs.declared.step_fault.StepFault.{StepFault}
 use Rattle.judge.specs.declared.step.Taken.{Taken}
 use Rattle.judge.specs.declared.working.Counts.{Counts}
 use Rattle.judge.specs.declared.working.Lists.{Lists}
-use Rattle.judge.specs.Blanks.{no_constraint, no_edge, no_split, lengths_of, NoneInUse, SameList, SameLists}
+use Rattle.judge.specs.Blanks.{no_constraint, no_edge, no_split, lengths_of, SameList, SameLists}
 use Rattle.judge.specs.Steps.{step_at, first_steps}
 use Rattle.judge.specs.Progress.{Room, Underway}
 use Rattle.judge.specs.Reasons.{Because, Halted}
-use Rattle.judge.specs.Shown.{second_of, State, on, Holds, Sound, after, Moved}
+use Rattle.judge.specs.Shown.{second_of, State, on, Holds, Small, Sound, after, Moved}
 use Rattle.judge.specs.Taking.{Took}
-use Rattle.judge.proofs.Decoding.{steps_more, steps-take, steps_at}
+use Rattle.judge.proofs.Decoding.{steps_length, steps_more, steps-take, steps_at}
+use Rattle.judge.proofs.Growing.{few_underway}
 use Rattle.judge.proofs.Listing.{listed_none}
 use Rattle.judge.proofs.Showing.{shown_room}
 use Rattle.judge.proofs.Standing.{Stands, stepped, stopped}
 
--- blank lists show the individuals alone
-pub shown_start : (l : Lists) (at : Counts) → at ≡ record { constraints = 0; edges = 0; splits = 0; labels = 32 } → NoneInUse l → Holds l at (on start [])
-shown_start l at e b =
+-- with nothing in use, lists show the individuals alone
+pub shown_start : (l : Lists) (at : Counts) → at ≡ record { constraints = 0; edges = 0; splits = 0; labels = 32 } → Holds l at (on start [])
+shown_start l at e =
     subst (λ v. Holds l v (on start [])) (sym e)
     (record {
-      constraints = listed_none no_constraint l.constraints.now b.constraints;
-      edges = listed_none no_edge l.edges.now b.edges;
-      splits = listed_none no_split l.splits.now b.splits;
+      constraints = listed_none no_constraint l.constraints.now;
+      edges = listed_none no_edge l.edges.now;
+      splits = listed_none no_split l.splits.now;
       labels = refl;
       few = omega arith;
       fronts = tt;
@@ -65,6 +66,15 @@ module _ (bk : Book) (ls : Lengths) (bs : List ℕ) (i : ℕ) (s : Step) (is : s
 
   pub is_sound : Sound l at
   is_sound = (on found.0 found.1, found.3)
+
+  -- after so few steps the counts have 16 bits
+  pub is_small : i < 8192 → Small at
+  is_small h =
+      let f = few_underway found.2 in
+      let n : length (first_steps i bs) ≡ i = steps_length bs i in
+      let c : length found.0.constraints ≡ at.constraints = found.3.constraints.count in
+      let e : length found.0.edges ≡ at.edges = found.3.edges.count in
+      record { constraints = omega (arith, f.0); edges = omega (arith, f.1) }
 
   -- it is taken
   pub goes_on : (m : Lists) (t : Taken) → lengths_of m ≡ ls → ((σ : State) → Holds l at σ → Took bk (lengths_of l) (Holds m) σ.branch σ.pending s (Ok t)) → Stands bk ls (first_steps (i + 1) bs) (Holds m) t.at

@@ -20,6 +20,8 @@ pub mod Telling
 pub mod Answering
 -- steps as the writing of a tree
 pub mod Trees
+-- a branch grows little in a step
+pub mod Growing
 -- what becomes of steps is determined
 pub mod Fates
 -- the first steps of bytes

@@ -85,14 +85,22 @@ module _ {A : Type 0} (z : A) where
       blanked_end a b c l m (length_mid a blanks l m (omega arith) is)
       (λ i p q. ((λ r. omega arith), (λ r. omega arith))) put
 
-  -- a blank list has nothing in use
-  pub listed_none : (l : List A) → l ≡ replicate (length l) z → Listed z l 0 []
-  listed_none l e =
+  -- nothing in use
+  pub listed_none : (l : List A) → Listed z l 0 []
+  listed_none l =
       record {
-        held = λ i. ap (λ r. get_or r i z) e ∙ blank_at (length l) i;
+        held = λ i h. absurd (omega arith);
         count = refl;
         fits = omega arith;
       }
+
+  -- what is read of the records in use, and a blank past them
+  pub listed_read : (l : List A) (k : ℕ) (xs : List A) (i : ℕ) → Listed z l k xs → cond (ltb i k) (get_or l i z) z ≡ get_or xs i z
+  listed_read l k xs i s =
+      ⊎_elim
+      (λ (h : i < k). cond-true _ (get_or l i z) z (lt-ltb i k h) ∙ s.held i h)
+      (λ (h : k ≤ i). let c : length xs ≡ k = s.count in cond-false _ (get_or l i z) z (le-ltb i k h) ∙ sym (get_or_past xs i z (omega arith)))
+      (cases_lt i k)
 
   -- more records in use
   pub listed_append : (l m : List A) (k : ℕ) (xs ys : List A) → k + length ys ≤ length l → m ≡ take k l ++ (ys ++ drop (k + length ys) l) → Listed z l k xs → Listed z m (k + length ys) (xs ++ ys)
@@ -102,15 +110,10 @@ module _ {A : Type 0} (z : A) where
       let p : length (xs ++ ys) ≡ length xs + length ys = length-append xs ys in
       let n : length m ≡ length l = length_mid k ys l m h was in
       record {
-        held = λ i.
+        held = λ i r.
             ⊎_elim
-            (λ (q : i < k). e i ∙ below k (k + length ys) i (get_or ys (i - k) z) (get_or l i z) q ∙ s.held i ∙ sym (get_or_append_left xs ys z i (omega arith)))
-            (λ (q : k ≤ i).
-            ⊎_elim
-            (λ (r : i < k + length ys). e i ∙ inside k (k + length ys) i (get_or ys (i - k) z) (get_or l i z) q r ∙ sym (get_or-append_right xs ys k i z c q))
-            (λ (r : k + length ys ≤ i).
-            e i ∙ above k (k + length ys) i (get_or ys (i - k) z) (get_or l i z) r ∙ s.held i ∙ get_or_past xs i z (omega arith) ∙ sym (get_or_past (xs ++ ys) i z (omega arith)))
-            (cases_lt i (k + length ys)))
+            (λ (q : i < k). e i ∙ below k (k + length ys) i (get_or ys (i - k) z) (get_or l i z) q ∙ s.held i q ∙ sym (get_or_append_left xs ys z i (omega arith)))
+            (λ (q : k ≤ i). e i ∙ inside k (k + length ys) i (get_or ys (i - k) z) (get_or l i z) q r ∙ sym (get_or-append_right xs ys k i z c q))
             (cases_lt i k);
         count = omega arith;
         fits = omega arith;
@@ -123,16 +126,7 @@ module _ {A : Type 0} (z : A) where
       let c : length xs ≡ b = s.count in
       let t : length (take a xs) ≡ a = length-take-le a xs (omega arith) in
       record {
-        held = λ i.
-            ⊎_elim
-            (λ (p : i < a). e i ∙ below a b i z (get_or l i z) p ∙ s.held i ∙ sym (get_or-take a xs i z p))
-            (λ (p : a ≤ i).
-            ⊎_elim
-            (λ (q : i < b). e i ∙ inside a b i z (get_or l i z) p q)
-            (λ (q : b ≤ i). e i ∙ above a b i z (get_or l i z) q ∙ s.held i ∙ get_or_past xs i z (omega arith))
-            (cases_lt i b)
-            ∙ sym (get_or_past (take a xs) i z (omega arith)))
-            (cases_lt i a);
+        held = λ i p. e i ∙ below a b i z (get_or l i z) p ∙ s.held i (omega arith) ∙ sym (get_or-take a xs i z p);
         count = t;
         fits = omega arith;
       }

@@ -128,7 +128,7 @@ module _ (br : Branch) (ps : List Pending) (at : Counts) (cs : List Constraint) 
             let before = reverse (map stored rest) in
             let all : reverse (map stored ps) ≡ before ++ stored p ∷ [] = ap (λ v. reverse (map stored v)) q ∙ reverse-cons (stored p) (map stored rest) in
             let n : length before + 1 ≡ at.splits = sym (length_push before (stored p)) ∙ ap length (sym all) ∙ s.splits.count in
-            (p, rest, q, s.splits.held left ∙ ap (λ v. get_or v left no_split) all ∙ get_or_push before (stored p) no_split left (omega arith))
+            (p, rest, q, s.splits.held left (omega arith) ∙ ap (λ v. get_or v left no_split) all ∙ get_or_push before (stored p) no_split left (omega arith))
 
     -- what is cut back was there
     latest_below : latest.constraints < at.constraints

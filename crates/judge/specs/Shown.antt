@@ -1,6 +1,6 @@
 -- A branch with its pending splits in the working lists. It serves the contracts of private functions.
 -- Counted: a branch by its counts. labelled: one label more. Pending: a split as the calculus has it.
--- Shown: what lists show. State: what is worked. Holds, Sound: what the working lists hold. after: where the
+-- Shown: what lists show. State: what is worked. Holds, Sound, Small: what the working lists hold. after: where the
 -- work goes after an effect. Moved, Goes: what code makes of it.
 -- Assumes nothing.
 use Rattle.std.specs.Prelude.{◌≡◌, ◌+◌, ◌<◌, ◌≤◌, nat_lt, if◌then◌else◌, List, [], ◌∷◌, map, reverse, length, take, Some, None, Ok, Err, Option, Result}
@@ -78,6 +78,11 @@ Holds l at σ = Shown σ.branch σ.pending at l.constraints.now l.edges.now l.sp
 -- they hold some state
 abbrev pub Sound : Lists → Counts → Type 0
 Sound l at = (σ : State) × Holds l at σ
+
+-- the counts of constraints and edges have 16 bits
+pub record Small (at : Counts) : Type 0 where
+  pub constraints : at.constraints < 65536
+  pub edges : at.edges < 65536
 
 -- back to the latest split, and on with its second alternative; nowhere, where none is pending
 abbrev pub back : List Pending → Option State

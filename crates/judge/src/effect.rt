@@ -3,7 +3,7 @@ ghost use Rattle.std.specs.Prelude.{Some, Ok};
 ghost use Rattle.logic.specs.Branches.{with};
 ghost use Rattle.judge.specs.declared.effect.Effect.TheVariants.{Splits};
 ghost use Rattle.judge.specs.Blanks.{SameLists};
-ghost use Rattle.judge.specs.Shown.{Sound, on, back, after, Goes};
+ghost use Rattle.judge.specs.Shown.{Small, Sound, on, back, after, Goes};
 
 use crate::lists::{append, cut_back};
 use crate::step_fault::StepFault;
@@ -55,12 +55,13 @@ impl Lists<'_> {
         first: Constraint,
         second: Constraint,
     ) -> Result<Option<Counts>, StepFault>
+        requires { Small at }
         ensures same { SameLists self.old self.new }
         ensures goes { Goes self.old at self.new (after (Splits first second)) result }
     {
         let pending = Split {
-            constraints: at.constraints,
-            edges: at.edges,
+            constraints: at.constraints as u16,
+            edges: at.edges as u16,
             labels: at.labels,
             second,
         };
@@ -81,21 +82,25 @@ impl Lists<'_> {
     {
         let left = at.splits.checked_sub(1)?;
         let latest = self.splits[left];
+        let constraints = latest.constraints as usize;
+        let edges = latest.edges as usize;
         cut_back(self.splits, left, at.splits);
-        cut_back(self.constraints, latest.constraints, at.constraints);
-        cut_back(self.edges, latest.edges, at.edges);
-        self.constraints[latest.constraints] = latest.second;
+        cut_back(self.constraints, constraints, at.constraints);
+        cut_back(self.edges, edges, at.edges);
+        self.constraints[constraints] = latest.second;
         Some(Counts {
-            constraints: latest.constraints + 1,
-            edges: latest.edges,
+            constraints: constraints + 1,
+            edges,
             splits: left,
             labels: latest.labels,
         })
     }
 
     // What an effect does.
+    #[inline(always)]
     pub(crate) fn apply(&mut self, effect: Effect, at: Counts) -> Result<Option<Counts>, StepFault>
-        requires { Sound self.old at }
+        requires sound { Sound self.old at }
+        requires small { Small at }
         ensures same { SameLists self.old self.new }
         ensures goes { Goes self.old at self.new (after effect) result }
     {

@@ -1,6 +1,6 @@
-// Work on lent lists of records that have a blank: the records in front are in use, the others blank. How many
-// are in use goes beside a list, which is the caller's slice.
-ghost use Rattle.std.specs.Prelude.{◌≡◌, ◌+◌, ◌++◌, length, take, drop, replicate, nat_le, slice_index_or, is_ok, if◌then◌else◌};
+// Work on lent lists of records that have a blank: the records in front are in use, and the others may be anything
+// until the list is cleared. How many are in use goes beside a list, which is the caller's slice.
+ghost use Rattle.std.specs.Prelude.{◌≡◌, ◌+◌, ◌++◌, length, take, drop, replicate, nat_le, nat_lt, slice_index_or, is_ok, if◌then◌else◌};
 ghost use Rattle.judge.specs.Lists.{Blanked};
 
 // A record that has a blank: zero in each field. In place of Default, which gives generic code no fixed value.
@@ -15,11 +15,15 @@ pub trait Blank: Copy {
 #[derive(Clone, Copy)]
 pub struct ListFull;
 
-// Record i, or a blank past the end.
-pub fn record_at<T: Blank>(list: &[T], i: usize) -> T
-    ensures { result ≡ slice_index_or list.now i T.zeroed }
+// Record i of the `len` in use, or a blank past them.
+pub fn record_at<T: Blank>(list: &[T], len: usize, i: usize) -> T
+    ensures { result ≡ (if nat_lt i len then slice_index_or list.now i T.zeroed else T.zeroed) }
 {
-    list.get(i).copied().unwrap_or(T::blank())
+    if i < len {
+        list.get(i).copied().unwrap_or(T::blank())
+    } else {
+        T::blank()
+    }
 }
 
 // Puts records behind the first `len`, if there is room for all of them.

@@ -1,6 +1,6 @@
 // A tableau is worked, and refutes its book or is refused.
-ghost use Rattle.std.specs.Prelude.{IfErr};
-ghost use Rattle.judge.specs.Blanks.{lengths, lengths_of, AllBlank, NoneInUse, SameLists};
+ghost use Rattle.std.specs.Prelude.{◌≤◌, length, IfErr};
+ghost use Rattle.judge.specs.Blanks.{lengths, lengths_of, AllBlank, SameLists};
 ghost use Rattle.judge.specs.Faults.{Told};
 ghost use Rattle.judge.specs.Steps.{decoded};
 ghost use Rattle.judge.specs.Taking.{Worked};
@@ -15,14 +15,14 @@ use crate::working::{Counts, Lists, Split};
 use books::book::ReadableBook;
 use logic::tableau::{Constraint, Edge};
 
-// The steps of a tableau, one after the other, in lists that are blank.
+// The steps of a tableau, one after the other, in lists of which nothing is in use, whatever they hold.
 fn work<B: ReadableBook, W: Watch>(
     book: &B,
     bytes: &[u8],
     lists: &mut Lists,
     watch: &mut W,
 ) -> Result<Used, RefuteFault>
-    requires { NoneInUse lists.old }
+    requires { length bytes.now ≤ 40960 }
     ensures same { SameLists lists.old lists.new }
     ensures worked { Worked (B.ReadableBook.meaning book.now) (lengths_of lists.old) (decoded bytes.now) result }
 {
@@ -66,9 +66,9 @@ pub fn refute_watched<B: ReadableBook, W: Watch>(
         edges,
         splits,
     };
-    lists.clear();
     let n = bytes.len();
     if n % STEP != 0 || n > LONGEST {
+        lists.clear();
         return Err(RefuteFault::BadLength(n));
     }
     let answer = work(book, bytes, &mut lists, watch);

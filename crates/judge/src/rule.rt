@@ -45,6 +45,7 @@ pub(crate) fn cite(op: Op, entry: Entry, x: u16) -> Option<Effect>
 
 // An op on a constraint, which is on `node`. `edge` and `other` are what else the step may name, and y is
 // the next new label.
+#[inline(always)]
 pub(crate) fn expand(
     op: Op,
     constraint: Constraint,

@@ -5,7 +5,7 @@ ghost use Rattle.logic.specs.Branches.{Branch};
 ghost use Rattle.judge.specs.Blanks.{SameLists, lengths_of};
 ghost use Rattle.judge.specs.Ops.{there};
 ghost use Rattle.judge.specs.Decisions.{by_entry, by_constraint, decision};
-ghost use Rattle.judge.specs.Shown.{Counted, State, Holds, Sound};
+ghost use Rattle.judge.specs.Shown.{Counted, State, Holds, Small, Sound};
 ghost use Rattle.judge.specs.Taking.{Took};
 
 use crate::effect::Effect;
@@ -69,9 +69,9 @@ fn by_constraint<B: ReadableBook>(
     if a >= at.constraints || !present(op.second(), step.b, at) {
         return Err(StepFault::NotThere);
     }
-    let c = record_at(lists.constraints, a);
-    let edge = record_at(lists.edges, b);
-    let other = record_at(lists.constraints, b);
+    let c = record_at(lists.constraints, at.constraints, a);
+    let edge = record_at(lists.edges, at.edges, b);
+    let other = record_at(lists.constraints, at.constraints, b);
     expand(op, c, book.node_at(c.node), edge, other, at.labels).ok_or(StepFault::Misfit)
 }
 
@@ -101,7 +101,8 @@ pub(crate) fn take<B: ReadableBook>(
     lists: &mut Lists,
     at: Counts,
 ) -> Result<Taken, StepFault>
-    requires { Sound lists.old at }
+    requires sound { Sound lists.old at }
+    requires small { Small at }
     ensures same { SameLists lists.old lists.new }
     ensures took { (σ : State) → Holds lists.old at σ → Took (B.meaning book.now) (lengths_of lists.old) (Holds lists.new) σ.branch σ.pending step result }
 {

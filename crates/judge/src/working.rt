@@ -10,11 +10,12 @@ use logic::tableau::{Constraint, Edge, Form};
 // How many labels a branch may have.
 const LABELS: u16 = 256;
 
-// A pending split: the counts to go back to, and the alternative that is still to be worked.
+// A pending split: the counts to go back to, and the alternative that is still to be worked. 16 bits hold the counts of
+// 8,192 steps, and a list of small records is soon blanked.
 #[derive(Clone, Copy)]
 pub struct Split {
-    pub constraints: usize,
-    pub edges: usize,
+    pub constraints: u16,
+    pub edges: u16,
     pub labels: u16,
     pub second: Constraint,
 }

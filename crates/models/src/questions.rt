@@ -1,5 +1,5 @@
 // What a view answers, from the interpretation that it holds.
-ghost use Rattle.std.specs.Prelude.{◌≡◌};
+ghost use Rattle.std.specs.Prelude.{◌≡◌, [], slice_index_or};
 ghost use Rattle.models.specs.Held.{held};
 
 use crate::view::View;
@@ -17,6 +17,16 @@ impl View {
         ensures { result ≡ (held self.now).names a }
     {
         self.tables.names.get(a as usize).copied().unwrap_or(0)
+    }
+
+    // For each element those to which a role leads; none past the last role.
+    pub(crate) fn row(&self, role: u16) -> &[u32]
+        ensures { result.now ≡ slice_index_or self.now.tables.roles role [] }
+    {
+        match self.tables.roles.get(role as usize) {
+            Some(row) => row,
+            None => &[],
+        }
     }
 
     // The elements to which a role leads from element x; none past the last role or element.

@@ -21,16 +21,16 @@ pub(crate) fn set_at(list: &[u32], i: u16) -> u32
 // A type in place of a closure, which would bring a `requires` on a public call, `mask_of`.
 #[derive(Drop)]
 struct Led<'a> {
-    view: &'a View,
-    role: u16,
+    row: &'a [u32],
     set: u32,
 }
 
 impl<'a> Property for Led<'a> {
-    ghost holds = { λ p x. meeting ((held p.view.now).led p.role x) p.set };
+    ghost holds = { λ p x. meeting (slice_index p.row.now x) p.set };
 
     fn test(&self, x: u8) -> bool {
-        meets(self.view.led_to(self.role, x), self.set)
+        let row = self.row;
+        meets(row.get(x as usize).copied().unwrap_or(0), self.set)
     }
 }
 
@@ -44,8 +44,9 @@ struct Best<'a, O> {
 impl<'a, O: Order> Property for Best<'a, O> {
     ghost holds = { λ p x. has p.set x && not (meeting ((O.Order.meaning p.order.now).better x) p.set) };
 
+    // `&` and not `&&`, so that many elements are tested at once.
     fn test(&self, x: u8) -> bool {
-        contains(self.set, x) && !meets(self.order.better(x), self.set)
+        contains(self.set, x) & !meets(self.order.better(x), self.set)
     }
 }
 
@@ -60,7 +61,8 @@ fn complement(view: &View, set: u32) -> u32
 fn leading(view: &View, role: u16, set: u32) -> u32
     ensures { Leading (held view.now) role set result }
 {
-    mask_of(&Led { view, role, set }, view.size())
+    let row = view.row(role);
+    mask_of(&Led { row, set }, view.size())
 }
 
 // The elements from which the role leads only into the set: those from which it does not lead out of it.

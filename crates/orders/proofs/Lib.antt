@@ -1,6 +1,6 @@
 -- the bits of masks
 pub mod MaskBits
--- masks that a fold gathers
+-- masks that are gathered one element after the other
 pub mod Folds
 -- arrays that are made place by place
 pub mod Making

@@ -57,7 +57,10 @@ pub trait Property {
 pub fn mask_of<P: Property>(property: &P, n: u8) -> u32
     ensures { result ≡ mask_of (P.holds property.now) (min n 32) }
 {
-    (0..n.min(32))
-        .rev()
-        .fold(0u32, |mask, x| mask << 1 | property.test(x) as u32)
+    // a loop that sets bit x: a fold that shifts what it has cannot take several elements at once
+    let mut mask = 0;
+    for x in 0..n.min(32) {
+        mask |= (property.test(x) as u32) << x;
+    }
+    mask
 }

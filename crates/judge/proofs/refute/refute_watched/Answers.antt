@@ -1,8 +1,5 @@
-use Rattle.std.proofs.Common.{subst, ⊎_elim, arith}
-use Rattle.judge.specs.Steps.{decoded}
-use Rattle.judge.specs.Taking.{Worked}
+use Rattle.std.proofs.Common.{⊎_elim, arith}
 use Rattle.judge.proofs.Answering.{answer_length, answer_steps}
-use Rattle.judge.proofs.Halting.{same_lengths}
 use Rattle.judge.proofs.Telling.{worked_told}
 use Rattle.judge.proofs.refute.refute_watched.Goals as goal
 
@@ -15,7 +12,7 @@ returns-clause-answer g c =
     let bk = g.B.ReadableBook.meaning c.args.book.now in
     let bs = c.args.bytes.now in
     answer_steps bk _ bs (g.B.ReadableBook.lawful c.args.book.now).well_formed (record { whole = c.if-n-ne0.false; few = omega arith }) c.work-answer.result
-    (subst (λ l. Worked bk l (decoded bs) c.work-answer.result) (same_lengths _ _ c.clear.ensures.same) c.work-answer.ensures.worked)
+    c.work-answer.ensures.worked
 
 pub returns-clause-told : goal.returns-clause-told
 returns-clause-told g c = worked_told _ _ c.args.bytes.now c.work-answer.result c.work-answer.ensures.worked

@@ -9,7 +9,7 @@ use Rattle.judge.specs.declared.faults.RefuteFault.TheVariants.{AtStep}
 use Rattle.judge.specs.Reasons.{Halted}
 use Rattle.judge.specs.Taking.{Took}
 use Rattle.judge.proofs.Decoding.{steps_length, steps-take, chunk_step, chunk_room, chunk_rest, chunks_end}
-use Rattle.judge.proofs.Halting.{shown_start, same_lengths, same_again, is_sound, goes_on, mapped_ok, mapped_err, breaks_off}
+use Rattle.judge.proofs.Halting.{shown_start, same_lengths, same_again, is_sound, is_small, goes_on, mapped_ok, mapped_err, breaks_off}
 use Rattle.judge.proofs.Marks.{marks_next}
 use Rattle.judge.proofs.Standing.{Stands}
 use Rattle.judge.proofs.refute.work.Goals as goal
@@ -26,7 +26,7 @@ loop-i-init g c =
       rest = search rules;
       marks = subst (λ n. c.new-used.result.marks ≡ marks_of (first_steps n bs)) (sym none) c.new-used.ensures.unmarked;
       same = search rules;
-      stands = subst (λ n. Stands bk (lengths_of l) (first_steps n bs) (Holds l) (Some c.start.result)) (sym none) (start, [], begun, shown_start l c.start.result c.start.ensures c.requires);
+      stands = subst (λ n. Stands bk (lengths_of l) (first_steps n bs) (Holds l) (Some c.start.result)) (sym none) (start, [], begun, shown_start l c.start.result c.start.ensures);
     }
 
 pub returns-in_default-clause-worked : goal.returns-in_default-clause-worked
@@ -57,7 +57,11 @@ take-requires g c =
     let five = came.0.1.1 ∙ l.invariant.size in
     let chunk = sym l.invariant.rest ∙ came.0.1.0 in
     let is = c.step_of-step.ensures ∙ chunk_step bs n c.in-Some.chunk.now c.next.new.self.iter.rest.now five chunk in
-    is_sound bk ls bs n c.step_of-step.result is l.open c.in-Some-open.at c.in-Some-open.is l.lists (same_lengths c.args.lists.now l.lists l.invariant.same) l.invariant.stands
+    let long = same_lengths c.args.lists.now l.lists l.invariant.same in
+    record {
+      sound = is_sound bk ls bs n c.step_of-step.result is l.open c.in-Some-open.at c.in-Some-open.is l.lists long l.invariant.stands;
+      small = is_small bk ls bs n c.step_of-step.result is l.open c.in-Some-open.at c.in-Some-open.is l.lists long l.invariant.stands (omega (arith, chunk_room bs n c.in-Some.chunk.now c.next.new.self.iter.rest.now five chunk, c.requires));
+    }
 
 pub returns-in_err-taken-clause-worked : goal.returns-in_err-taken-clause-worked
 returns-in_err-taken-clause-worked g c =

@@ -3,12 +3,12 @@ use Rattle.judge.specs.Blanks.{no_split}
 use Rattle.judge.proofs.Showing.{latest_within, close_back}
 use Rattle.judge.proofs.working.Lists.close.Goals as goal
 
-pub bounds-self-latest : goal.bounds-self-latest
-bounds-self-latest c =
+pub bounds-self-constraints : goal.bounds-self-constraints
+bounds-self-constraints c =
     omega (arith, latest_within _ _ _ _ _ _ c.requires.1 c.in_ok-left.left (omega arith), c.cut_back-2.auto.list)
 
-pub offset_bounds-self-latest : goal.offset_bounds-self-latest
-offset_bounds-self-latest c =
+pub offset_bounds-self-constraints : goal.offset_bounds-self-constraints
+offset_bounds-self-constraints c =
     let within : (get_or c.args.self.now.splits.now c.in_ok-left.left no_split).constraints < length c.cut_back-2.new.list =
     omega (arith, latest_within _ _ _ _ _ _ c.requires.1 c.in_ok-left.left (omega arith), c.cut_back-2.auto.list) in search rules
 
