@@ -1,0 +1,2 @@
+-- the verdict on a hand-in as it was read
+pub mod HandIns

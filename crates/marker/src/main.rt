@@ -6,27 +6,13 @@ ghost use Rattle.std.specs.Io.KnownBytes.{Appends};
 ghost use Rattle.verdict.specs.Lines.{line_of};
 
 mod files;
+mod hand_in;
 
-use files::{read, read_or_empty};
+use hand_in::HandIn;
 use std::io;
 use std::io::Write;
-use std::rt::Files;
 use verdict::Verdict;
 use verdict::line::{LONGEST, line};
-use verdict::mark::{mark_model, mark_tableau};
-
-// The verdict on the tableau in the folder or, where it has no steps, on the model.
-fn mark<R: Files + AllocGlobal>(rt: &R) -> anyhow::Result<Verdict> {
-    let book = read_or_empty(rt, "book.bin")?;
-    match read(rt, "steps.bin")? {
-        Some(steps) => Ok(mark_tableau(&book, &steps)),
-        None => {
-            let model = read_or_empty(rt, "model.bin")?;
-            let pairs = read_or_empty(rt, "pairs.bin")?;
-            Ok(mark_model(&book, &model, &pairs))
-        }
-    }
-}
 
 // Writes the line of a verdict, and nothing else.
 fn write_line<W: Write>(out: &mut W, verdict: Verdict) -> io::Result<()>
@@ -38,6 +24,6 @@ fn write_line<W: Write>(out: &mut W, verdict: Verdict) -> io::Result<()>
 }
 
 fn main(rt: HostRuntime) -> anyhow::Result<()> {
-    let verdict = mark(&rt)?;
+    let verdict = HandIn::read(&rt)?.mark();
     Ok(write_line(&mut io::writer(&rt), verdict)?)
 }
