@@ -1,8 +1,5 @@
--- A call as one event of a run, and the fault that its `?` answers. Assumes nothing.
-use Rattle.std.proofs.Common.{◌≡◌, [], ◌∷◌, Err, Result, ap, ◌∙◌}
-use Rattle.std.specs.Result.{IsErrAnd}
-use Rattle.std.proofs.lemmas.Result.{err_from_is_err_and}
-use Rattle.docket.specs.declared.fault.Fault.{Fault}
+-- A call as one event of a run. Assumes nothing.
+use Rattle.std.proofs.Common.{[], ◌∷◌}
 use Rattle.docket.specs.Events.{Event}
 use Rattle.docket.specs.Runs.{State, Moves, Moved, Moved.none, Moved.then}
 use Rattle.docket.specs.Dockets.{Held, at, Reached}
@@ -14,7 +11,3 @@ one m = then none m
 -- from where a run has led, the call leads on
 pub on : (e : Event) (s t : Held) → Reached s → Moves e (at s) (at t) → Reached t
 on e s t r m = (e ∷ r.0, run_on r.0 (e ∷ []) (at s) (at t) r.1 (one m))
-
--- the fault that is made of a lower one
-pub fault_is : {A : Type 0} {f : Fault} (r : Result A Fault) → IsErrAnd r (λ e. e ≡ f) → r ≡ Err f
-fault_is r made = let p = err_from_is_err_and r made in p.1 ∙ ap Err p.2

@@ -1,7 +1,6 @@
 -- The reason for which the work on steps ends. Assumes nothing.
-use Rattle.std.proofs.Common.{◌≡◌, ℕ, ◌+◌, ◌<◌, List, [], ◌∷◌, ◌++◌, map, length, Some, Ok, Err, Option, Result, sym, refl, ap, ◌∙◌, subst, arith}
+use Rattle.std.proofs.Common.{◌≡◌, ℕ, ◌+◌, ◌<◌, List, [], ◌∷◌, ◌++◌, map, length, Some, Ok, Err, Option, sym, refl, ap, ◌∙◌, subst, arith}
 use Rattle.std.specs.Borrow.{MutBor}
-use Rattle.std.specs.Result.{MatchResult, IsErrAnd}
 use Rattle.logic.specs.declared.tableau.Step.{Step}
 use Rattle.logic.specs.Places.{At}
 use Rattle.logic.specs.Books.{Book}
@@ -47,17 +46,6 @@ same_list a b c p q = record { reference = q.reference ∙ p.reference; long = q
 pub same_again : (l m n : Lists) → SameLists l m → SameLists m n → SameLists l n
 same_again l m n s t =
     record { constraints = same_list _ _ _ s.constraints t.constraints; edges = same_list _ _ _ s.edges t.edges; splits = same_list _ _ _ s.splits t.splits }
-
--- what a result is, of which another is made by a change of its error
-pub mapped_ok : {T E F : Type 0} (r : Result T E) (m : Result T F) (t : T) (P : E → F → Type 0) → MatchResult r (λ x. m ≡ Ok x) (λ e. IsErrAnd m (P e)) → m ≡ Ok t → r ≡ Ok t
-mapped_ok {T} {E} {F} (Ok x) m t P h e = let q : ◌≡◌ {A = Result T F} (Ok x) (Ok t) = sym h ∙ e in cc
-mapped_ok (Err x) m t P h e = absurd (subst (λ v. IsErrAnd v (P x)) e h)
-
-pub mapped_err : {T E F : Type 0} (r : Result T E) (m : Result T F) (f : F) (P : E → F → Type 0) → MatchResult r (λ x. m ≡ Ok x) (λ e. IsErrAnd m (P e)) → m ≡ Err f → (e : E) × (r ≡ Err e) × P e f
-mapped_err {T} {E} {F} (Ok x) m f P h e =
-    let q : ◌≡◌ {A = Result T F} (Ok x) (Err f) = sym h ∙ e in
-    let z : ◌≡◌ {A = ℕ} 0 1 = cc in absurd (omega arith)
-mapped_err (Err x) m f P h e = (x, refl, subst (λ v. IsErrAnd v (P x)) e h)
 
 -- one step of bytes, in the loop
 module _ (bk : Book) (ls : Lengths) (bs : List ℕ) (i : ℕ) (s : Step) (is : s ≡ step_at bs i) (o : Option Counts) (at : Counts) (is_open : o ≡ Some at) (l : Lists) (long : lengths_of l ≡ ls) (stands : Stands bk ls (first_steps i bs) (Holds l) o) where

@@ -19,7 +19,7 @@ use Rattle.logic.specs.Examples.{second_side, SampleRefutation, WrongHandIn, Exa
 use Rattle.logic.proofs.Lawfulness.{lawful_with_line}
 
 -- what stands at a place of a list that is written out
-there : {A : Type 0} {xs : List A} {i : ℕ} {x : A} → T (ltb i (length xs)) → get_or xs i x ≡ x → At xs i x
+pub there : {A : Type 0} {xs : List A} {i : ℕ} {x : A} → T (ltb i (length xs)) → get_or xs i x ≡ x → At xs i x
 there within is = record { within = lit< within; is = is }
 
 sample_nodes : (i : ℕ) → i < 7 → (node_well_formed i (node_at sample i) ≡ true) × (node_placed (concepts sample.nodes) (node_at sample i) ≡ true)

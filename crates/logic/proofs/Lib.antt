@@ -1,3 +1,5 @@
+-- results of which the error is made into another one
+pub mod Mapping
 -- the concepts of a list of nodes
 pub mod Reading
 -- what keeps a book lawful

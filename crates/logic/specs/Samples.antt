@@ -1,6 +1,6 @@
 -- The sample book and its model, and the same book with a fact that leaves it without one.
--- sample, refuted: the two books. refutation: the steps of a closed tableau over the second.
--- SampleModel: the model of the first.
+-- sample, refuted: the two books. refutation: the steps of a closed tableau over the second. wrong_steps: those of
+-- a hand-in over the first that is wrong. SampleModel: the model of the first.
 -- Assumes nothing.
 use Rattle.std.specs.Prelude.{◌≡◌, ℕ, true, false, ◌&&◌, List, [], ◌∷◌, ◌==◌}
 use Rattle.logic.specs.declared.records.Node.TheVariants.{Name, Not, And, Typical}
@@ -34,6 +34,11 @@ refuted = with_entry sample (Fact 0 3)
 abbrev pub refutation : List Step
 refutation =
     step 1 2 0 ∷ step 1 3 0 ∷ step 2 0 0 ∷ step 12 1 2 ∷ step 2 1 0 ∷ step 12 0 3 ∷ step 3 3 0 ∷ step 12 2 4 ∷ []
+
+-- steps over the sample book, of which the last is none of the calculus
+abbrev pub wrong_steps : List Step
+wrong_steps =
+    step 1 2 0 ∷ step 8 0 0 ∷ step 4 1 0 ∷ step 2 0 0 ∷ step 9 5 0 ∷ step 12 3 6 ∷ step 12 2 6 ∷ []
 
 -- Two elements, of which 1 is better than 0. Both are releases, 0 is yanked, 1 is paired. No role
 -- leads anywhere, and every individual is element 0.

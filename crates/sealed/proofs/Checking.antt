@@ -1,10 +1,11 @@
 -- The steps of the check: faults, marks, one record more, the whole. Assumes nothing.
 use Rattle.std.proofs.Common.{◌≡◌, ℕ, zero, suc, ◌+◌, ◌<◌, Bool, true, cond, ◌&&◌, eqb, leb, List, [], ◌∷◌, ◌++◌, length, get_or, set, replicate, Result, Ok, Err, MatchResult, sym, refl, ap, ◌∙◌, subst, inl, inr, arith}
-use Rattle.std.specs.Result.{IsOkAnd, IsErrAnd, is_ok}
+use Rattle.std.specs.Result.{IsOkAnd, IsErrAnd}
 use Rattle.std.proofs.lemmas.List.{get_or-set_same, get_or-set_other, get_or_push}
 use Rattle.std.proofs.lemmas.Bool.{cases_eq, cases_lt, lt-leb, false≢true}
 use Rattle.logic.specs.declared.records.Node.{Node}
 use Rattle.logic.specs.Concepts.{bottom, of, read, concepts, plain}
+use Rattle.logic.proofs.Mapping.{mapped_ok, mapped_err}
 use Rattle.logic.proofs.Reading.{concepts-push, length-concepts}
 use Rattle.books.specs.declared.faults.Unfit.{Unfit}
 use Rattle.books.specs.declared.faults.Unfit.TheVariants as unfit
@@ -29,12 +30,10 @@ with_room limit count unfit h = ap (λ b. cond b 1 unfit) (lt-leb limit count h)
 
 -- what is judged of a record, by the result that the check makes of it
 pub judged_ok : {T : Type 0} {n : ℕ} (x : T) (r : Result T Unfit) (m : Result T CheckFault) (P : Unfit → CheckFault → Type 0) → Judged n x r → (y : T) → MatchResult r (λ z. m ≡ Ok z) (λ u. IsErrAnd m (P u)) → m ≡ Ok y → (n ≡ 0) × (y ≡ x)
-judged_ok {T} x (Ok z) m P j y h e = let q : ◌≡◌ {A = Result T CheckFault} (Ok z) (Ok y) = sym h ∙ e in (j.0, sym (let k : z ≡ y = cc in k) ∙ j.1)
-judged_ok x (Err u) m P j y h e = absurd (subst (λ v. IsErrAnd v (P u)) e h)
+judged_ok {n = n} x r m P j y h e = subst (Judged n x) (mapped_ok r m y P h e) j
 
 pub judged_err : {T : Type 0} {n : ℕ} (x : T) (r : Result T Unfit) (m : Result T CheckFault) (P : Unfit → CheckFault → Type 0) → Judged n x r → (f : CheckFault) → MatchResult r (λ z. m ≡ Ok z) (λ u. IsErrAnd m (P u)) → m ≡ Err f → (u : Unfit) × P u f × (n ≡ unfit_number u)
-judged_err x (Ok z) m P j f h e = absurd (false≢true (subst (λ v. is_ok v ≡ true) (sym h ∙ e) refl))
-judged_err x (Err u) m P j f h e = (u, subst (λ v. IsErrAnd v (P u)) e h, j)
+judged_err {n = n} x r m P j f h e = let was = mapped_err r m f P h e in (was.0, was.2, subst (Judged n x) was.1 j)
 
 -- marks of no node
 pub no_marks : (n : ℕ) → Marks (replicate n true) []

@@ -1,18 +1,17 @@
 -- What refute answers to the two tableaux of the sample books. Assumes nothing.
-use Rattle.std.proofs.Common.{◌≡◌, ℕ, ◌≤◌, T, leb, ltb, List, [], ◌∷◌, length, get_or, take, Ok, Err, Result, refl, ap, ◌∙◌, sym, subst, arith, lit<, lit≤}
+use Rattle.std.proofs.Common.{◌≡◌, ℕ, ◌≤◌, T, leb, List, [], ◌∷◌, length, take, Ok, Err, Result, refl, ap, ◌∙◌, sym, subst, arith, lit<, lit≤}
 use Rattle.std.specs.Result.{IsOkAnd}
 use Rattle.logic.specs.declared.tableau.Form.TheVariants.{Holds}
 use Rattle.logic.specs.declared.tableau.Step.{Step}
 use Rattle.logic.specs.Books.{Book}
 use Rattle.logic.specs.Lawful.{WellFormed}
-use Rattle.logic.specs.Places.{At}
 use Rattle.logic.specs.Branches.{Branch, start, constraint, with}
 use Rattle.logic.specs.Rules.{step, fact, not_holds, inclusion, holds_and_fails}
 use Rattle.logic.specs.Tableaux.{writing, used}
 use Rattle.logic.specs.Limits.{Lengths, Fits}
-use Rattle.logic.specs.Samples.{sample, refuted, refutation}
+use Rattle.logic.specs.Samples.{sample, refuted, refutation, wrong_steps}
 use Rattle.logic.specs.Examples.{after_and, second_side}
-use Rattle.logic.proofs.Examples.{examples}
+use Rattle.logic.proofs.Examples.{examples, there}
 use Rattle.logic.proofs.Fitting.{longer_lists_fit}
 use Rattle.judge.specs.declared.faults.RefuteFault.{RefuteFault}
 use Rattle.judge.specs.declared.faults.RefuteFault.TheVariants.{AtStep}
@@ -26,26 +25,22 @@ use Rattle.judge.specs.Reasons.{branch_full, Halted, by_steps}
 use Rattle.judge.specs.Refutations.{Refutation}
 use Rattle.judge.proofs.Answering.{answer_steps}
 use Rattle.judge.proofs.Trees.{closed_finished}
-use Rattle.verdict.specs.Rows.{Gives, RefusedAt, Refute, lists, wrong}
+use Rattle.verdict.specs.Rows.{Gives, RefusedAt, Refute, lists}
 
 formed : WellFormed refuted
 formed = examples.refuted_lawful.well_formed
-
--- what stands at a place of a list that is written out
-there : {A : Type 0} {xs : List A} {i : ℕ} {x : A} → T (ltb i (length xs)) → get_or xs i x ≡ x → At xs i x
-there within is = record { within = lit< within; is = is }
 
 -- the bytes are read back
 refutation_read : decoded (encoded refutation) ≡ refutation
 refutation_read = refl
 
-wrong_read : decoded (encoded wrong) ≡ wrong
+wrong_read : decoded (encoded wrong_steps) ≡ wrong_steps
 wrong_read = refl
 
 refutation_whole : Whole (encoded refutation)
 refutation_whole = record { whole = refl; few = lit≤ tt }
 
-wrong_whole : Whole (encoded wrong)
+wrong_whole : Whole (encoded wrong_steps)
 wrong_whole = record { whole = refl; few = lit≤ tt }
 
 -- steps that are halted, and the refusal
@@ -140,7 +135,7 @@ module _ (ls : Lengths) (seven : 7 ≤ ls.constraints) (two : 2 ≤ ls.splits) w
   room : {k : ℕ} {br : Branch} → T (leb (length br.constraints) 7) → T (leb (length br.edges) 0) → T (leb k 2) → T (leb br.next 256) → Room ls k br
   room c e s l = record { lists = record { constraints = omega (arith, lit≤ c); edges = omega (arith, lit≤ e); splits = omega (arith, lit≤ s) }; labels = lit≤ l }
 
-  six_under : Underway sample ls (take 6 wrong) second_side (with after_and (constraint 0 Holds 2 ∷ []) [] ∷ [])
+  six_under : Underway sample ls (take 6 wrong_steps) second_side (with after_and (constraint 0 Holds 2 ∷ []) [] ∷ [])
   six_under =
       turned
       (divided
@@ -154,7 +149,7 @@ module _ (ls : Lengths) (seven : 7 ≤ ls.constraints) (two : 2 ≤ ls.splits) w
       examples.wrong.step_4 (room tt tt tt tt))
       examples.wrong.step_5
 
-  misfit : Halted sample ls (decoded (encoded wrong)) (AtStep 6 Misfit)
+  misfit : Halted sample ls (decoded (encoded wrong_steps)) (AtStep 6 Misfit)
   misfit = subst (λ ss. Halted sample ls ss (AtStep 6 Misfit)) (sym wrong_read) (record {
     current = step 12 2 6;
     here = there tt refl;
@@ -164,5 +159,5 @@ module _ (ls : Lengths) (seven : 7 ≤ ls.constraints) (two : 2 ≤ ls.splits) w
     because = (record { formed = refl; entered = refl; present = refl; live = refl }, examples.wrong.step_6);
   })
 
-  pub no_rule : Gives (Refute sample ls wrong) (RefusedAt refute_fault_number refute_fault_place 10 6)
-  no_rule = refused sample examples.sample_lawful.well_formed ls wrong wrong_whole (AtStep 6 Misfit) misfit
+  pub no_rule : Gives (Refute sample ls wrong_steps) (RefusedAt refute_fault_number refute_fault_place 10 6)
+  no_rule = refused sample examples.sample_lawful.well_formed ls wrong_steps wrong_whole (AtStep 6 Misfit) misfit

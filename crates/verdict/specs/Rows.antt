@@ -1,5 +1,5 @@
 -- The sample rows: for each input, how every outcome is that keeps the promise of the call.
--- Gives: the outcomes of a call. RefusedAt: a refusal by number and place. pairs, lists, wrong: what is handed over.
+-- Gives: the outcomes of a call. RefusedAt: a refusal by number and place. pairs, lists: what is handed over.
 -- FillPairs, FillRanks, ShowSample, Refute: the promises of calls. Samples: what the samples are. Rows: the rows.
 -- Assumes nothing.
 use Rattle.std.specs.Prelude.{◌≡◌, ℕ, ◌-◌, ◌≤◌, List, [], ◌∷◌, ◌++◌, length, take, Ok, Result, IsOkAnd, IsErrAnd, slice_index, slice_range}
@@ -8,8 +8,7 @@ use Rattle.logic.specs.declared.refusal.BadLength.{BadLength}
 use Rattle.logic.specs.declared.tableau.Step.{Step}
 use Rattle.logic.specs.Books.{Book, empty}
 use Rattle.logic.specs.Limits.{Lengths}
-use Rattle.logic.specs.Rules.{step}
-use Rattle.logic.specs.Samples.{sample, refuted, refutation, SampleModel}
+use Rattle.logic.specs.Samples.{sample, refuted, refutation, wrong_steps, SampleModel}
 use Rattle.books.specs.declared.faults.OfferFault.{OfferFault}
 use Rattle.books.specs.declared.sample.TheConstants.{NODES, ENTRIES, QUESTION, REFUTATION, WRONG_STEPS}
 use Rattle.books.specs.Faults.{offer_fault_number, offer_fault_place}
@@ -74,10 +73,6 @@ ShowSample o show = (length show.left ≡ 7) × ShowPromise sample sample_bytes 
 abbrev pub lists : ℕ → ℕ → ℕ → Lengths
 lists constraints edges splits = record { constraints = constraints; edges = edges; splits = splits }
 
--- the steps of the wrong hand-in
-abbrev pub wrong : List Step
-wrong = step 1 2 0 ∷ step 8 0 0 ∷ step 4 1 0 ∷ step 2 0 0 ∷ step 9 5 0 ∷ step 12 3 6 ∷ step 12 2 6 ∷ []
-
 -- refute is handed a book and steps, and lists of these lengths
 abbrev pub Refute : Book → Lengths → List Step → Result Used RefuteFault → Type 0
 Refute bk ls ss answer = RefuteAnswer bk ls (encoded ss) answer
@@ -100,7 +95,7 @@ pub record Samples : Type 0 where
   pub book : (bk : Book) × Written nodes empty NODES bk × Written entries bk ENTRIES sample
   pub question : Written entries sample (QUESTION ∷ []) refuted
   pub closed : REFUTATION ≡ encoded refutation
-  pub wrong : WRONG_STEPS ≡ encoded wrong
+  pub wrong : WRONG_STEPS ≡ encoded wrong_steps
   pub whole : Whole sample_bytes
   pub names : (a : ℕ) → (said sample_bytes).names a ≡ slice_index (3 ∷ 1 ∷ 2 ∷ []) a
   pub model : (f : Fits (said sample_bytes) (paired (pairs 2 0))) × SampleModel (meant (said sample_bytes) (paired (pairs 2 0)) f)
@@ -122,7 +117,7 @@ pub record Rows : Type 0 where
   pub list_full : (edges : ℕ) → Gives (Refute refuted (lists 4 edges 1) refutation) (RefusedAt refute_fault_number refute_fault_place 11 6)
   -- the wrong hand-in, in lists for 7 constraints and 2 splits or more: no rule has step 6
   pub no_rule : (ls : Lengths) → 7 ≤ ls.constraints → 2 ≤ ls.splits →
-      Gives (Refute sample ls wrong) (RefusedAt refute_fault_number refute_fault_place 10 6)
+      Gives (Refute sample ls wrong_steps) (RefusedAt refute_fault_number refute_fault_place 10 6)
   -- seal writes 64 bytes, which are the sample book, sealed, and end in these eight
   pub sealed : (out : List ℕ) → 64 ≤ length out →
       Gives (SealSample out) (λ seal. (seal.answer ≡ Ok 64) × SealedAs (take 64 seal.left) sample × Ends (0x07 ∷ 0x00 ∷ 0x03 ∷ 0x00 ∷ 0x38 ∷ 0x00 ∷ 0x00 ∷ 0x00 ∷ []) 64 seal.left)

@@ -1,5 +1,6 @@
 use Rattle.std.proofs.Common.{◌*◌, ◌<◌, Some, ◌∙◌, ap, drop, take, ◌≡◌, ◌/◌, [], length, map, Err, sym, subst, rules, arith}
 use Rattle.logic.specs.Branches.{start}
+use Rattle.logic.proofs.Mapping.{mapped_ok, mapped_err}
 use Rattle.judge.specs.Members.{marks_of}
 use Rattle.judge.specs.Progress.{begun, Finished, Underway}
 use Rattle.judge.specs.Steps.{first_steps, decoded}
@@ -9,7 +10,7 @@ use Rattle.judge.specs.declared.faults.RefuteFault.TheVariants.{AtStep}
 use Rattle.judge.specs.Reasons.{Halted}
 use Rattle.judge.specs.Taking.{Took}
 use Rattle.judge.proofs.Decoding.{steps_length, steps-take, chunk_step, chunk_room, chunk_rest, chunks_end}
-use Rattle.judge.proofs.Halting.{shown_start, same_lengths, same_again, is_sound, is_small, goes_on, mapped_ok, mapped_err, breaks_off}
+use Rattle.judge.proofs.Halting.{shown_start, same_lengths, same_again, is_sound, is_small, goes_on, breaks_off}
 use Rattle.judge.proofs.Marks.{marks_next}
 use Rattle.judge.proofs.Standing.{Stands}
 use Rattle.judge.proofs.refute.work.Goals as goal

@@ -1,12 +1,13 @@
 use Rattle.std.proofs.Common.{Ok, refl}
 use Rattle.judge.specs.Blanks.{lengths}
 use Rattle.docket.specs.Events.{Event.refute}
-use Rattle.docket.proofs.Calls.{one, on, fault_is}
+use Rattle.logic.proofs.Mapping.{err_is}
+use Rattle.docket.proofs.Calls.{one, on}
 use Rattle.docket.proofs.docket.Docket.refute.Goals as goal
 
 pub returns-in_err-used : goal.returns-in_err-used
 returns-in_err-used g c = record {
-  run = rw (fault_is _ c.from_residual.ensures.1, ← c.self.view_is) (one (_, refl, c.in_err-used.ensures.answer, refl, record { standing = refl; used = refl }));
+  run = rw (err_is _ c.from_residual.ensures.1, ← c.self.view_is) (one (_, refl, c.in_err-used.ensures.answer, refl, record { standing = refl; used = refl }));
   blank = c.in_err-used.ensures.blank;
 }
 

@@ -1,11 +1,12 @@
 use Rattle.std.proofs.Common.{Ok, refl}
 use Rattle.docket.specs.Events.{Event.show}
-use Rattle.docket.proofs.Calls.{one, on, fault_is}
+use Rattle.logic.proofs.Mapping.{err_is}
+use Rattle.docket.proofs.Calls.{one, on}
 use Rattle.docket.proofs.docket.Docket.show.Goals as goal
 
 pub returns-in_err-n : goal.returns-in_err-n
 returns-in_err-n g c =
-    rw (fault_is _ c.from_residual.ensures.1, ← c.self.view_is) (one (_, refl, rw c.show.auto.list c.in_err-n.ensures, refl, record { standing = refl; used = refl }))
+    rw (err_is _ c.from_residual.ensures.1, ← c.self.view_is) (one (_, refl, rw c.show.auto.list c.in_err-n.ensures, refl, record { standing = refl; used = refl }))
 
 pub returns : goal.returns
 returns g c = rw (← c.self.view_is) (one (rw c.show.auto.list c.in_ok-n.ensures, refl, c.follow.ensures, refl))

@@ -1,11 +1,12 @@
 use Rattle.std.proofs.Common.{Ok, refl}
 use Rattle.docket.specs.Events.{Event.strike}
-use Rattle.docket.proofs.Calls.{one, on, fault_is}
+use Rattle.logic.proofs.Mapping.{err_is}
+use Rattle.docket.proofs.Calls.{one, on}
 use Rattle.docket.proofs.docket.Docket.strike.Goals as goal
 
 pub returns-in_err-strike : goal.returns-in_err-strike
 returns-in_err-strike g c =
-    rw (fault_is _ c.from_residual.ensures.1, ← c.self.view_is) (one (_, refl, c.in_err-strike.ensures, record { standing = refl; used = refl }))
+    rw (err_is _ c.from_residual.ensures.1, ← c.self.view_is) (one (_, refl, c.in_err-strike.ensures, record { standing = refl; used = refl }))
 
 pub returns : goal.returns
 returns g c = rw (← c.self.view_is) (one (c.in_ok-strike.ensures, rw (← c.has.ensures, ← c.struck.ensures) c.follow.ensures, refl))
