@@ -2,8 +2,27 @@
 use Rattle.std.proofs.Common.{◌≡◌, Bool, true, false, refl}
 use Rattle.docket.specs.declared.standing.Standing.{Standing}
 use Rattle.docket.specs.declared.standing.Standing.TheVariants.{Open, Refuted, Shown}
-use Rattle.docket.specs.declared.standing.Granted.TheVariants.{Entered, Closed, Satisfied}
+use Rattle.docket.specs.declared.standing.Granted.{Granted}
+use Rattle.docket.specs.declared.standing.Granted.TheVariants.{Entered, StruckUsed, StruckOther, Closed, Satisfied}
 use Rattle.docket.specs.Standings.{Next, struck_as}
+
+-- what stands in the cells that never occur is left open
+pub left_open : (P : Type 0) (s : Standing) (e : Granted) (t : Standing) → Next P s e t → Next (Unit {0}) s e t
+left_open P Open Entered t n = n
+left_open P Refuted Entered t n = n
+left_open P Shown Entered t n = n
+left_open P Open StruckUsed t n = n
+left_open P Refuted StruckUsed t n = n
+left_open P Shown StruckUsed t n = n
+left_open P Open StruckOther t n = n
+left_open P Refuted StruckOther t n = n
+left_open P Shown StruckOther t n = n
+left_open P Open Closed t n = n
+left_open P Refuted Closed t n = n
+left_open P Shown Closed t n = tt
+left_open P Open Satisfied t n = n
+left_open P Refuted Satisfied t n = tt
+left_open P Shown Satisfied t n = n
 
 -- the cells that never occur do not matter at the other events
 pub sure_entered : (s t : Standing) → Next (Unit {0}) s Entered t → Next ⊥ s Entered t

@@ -40,9 +40,10 @@ impl Granted {
 }
 
 impl Standing {
-    // Follows the table: standing and event together decide the next standing. Two cells never occur.
+    // Follows the table: standing and event together decide the next standing. In the two cells that never occur it
+    // stays.
     pub(crate) fn follow(&mut self, event: Granted)
-        ensures { Next (Unit {0}) self.old event self.new }
+        ensures { Next (self.new ≡ self.old) self.old event self.new }
     {
         match (self, event) {
             (Standing::Open, Granted::Entered) => {}

@@ -3,6 +3,7 @@ use Rattle.judge.specs.Blanks.{lengths}
 use Rattle.docket.specs.Events.{Event.refute}
 use Rattle.logic.proofs.Mapping.{err_is}
 use Rattle.docket.proofs.Calls.{one, on}
+use Rattle.docket.proofs.Table.{left_open}
 use Rattle.docket.proofs.docket.Docket.refute.Goals as goal
 
 pub returns-in_err-used : goal.returns-in_err-used
@@ -13,10 +14,10 @@ returns-in_err-used g c = record {
 
 pub returns : goal.returns
 returns g c = record {
-  run = rw (← c.self.view_is) (one (_, c.in_ok-used.ensures.answer, c.count-count.ensures, refl, c.follow.ensures, refl));
+  run = rw (← c.self.view_is) (one (_, c.in_ok-used.ensures.answer, c.count-count.ensures, refl, (left_open _ _ _ _ c.follow.ensures), refl));
   blank = c.in_ok-used.ensures.blank;
 }
 
 pub invariant_of-self : goal.invariant_of-self
 invariant_of-self g c =
-    on (refute c.args.bytes.now (lengths c.args.constraints.now c.args.edges.now c.args.splits.now) (Ok c.count-count.result)) _ _ c.self.invariant (_, c.in_ok-used.ensures.answer, c.count-count.ensures, refl, c.follow.ensures, refl)
+    on (refute c.args.bytes.now (lengths c.args.constraints.now c.args.edges.now c.args.splits.now) (Ok c.count-count.result)) _ _ c.self.invariant (_, c.in_ok-used.ensures.answer, c.count-count.ensures, refl, (left_open _ _ _ _ c.follow.ensures), refl)
