@@ -83,8 +83,8 @@ abbrev pub extension : Effect → Branch → Option Branch
 extension (Adds c) br = Some (with br (c ∷ []) [])
 extension (AddsTwo c d) br = Some (with br (c ∷ d ∷ []) [])
 extension (Links e) br = Some (with br [] (e ∷ []))
-extension (Grows e c) br = Some (with_new br (c ∷ []) (e ∷ []))
-extension (GrowsTwo e c d) br = Some (with_new br (c ∷ d ∷ []) (e ∷ []))
+extension (Grows x r f n) br = Some (with_new br (constraint br.next f n ∷ []) (edge x r br.next ∷ []))
+extension (GrowsTwo x r f g n) br = Some (with_new br (constraint br.next f n ∷ constraint br.next g n ∷ []) (edge x r br.next ∷ []))
 extension (Splitting c d) br = None
 extension Closing br = None
 
@@ -94,8 +94,8 @@ module _ (bk : Book) (br : Branch) (s : Step) where
   Does (Adds c) = Extends bk br s (with br (c ∷ []) [])
   Does (AddsTwo c d) = Extends bk br s (with br (c ∷ d ∷ []) [])
   Does (Links e) = Extends bk br s (with br [] (e ∷ []))
-  Does (Grows e c) = Extends bk br s (with_new br (c ∷ []) (e ∷ []))
-  Does (GrowsTwo e c d) = Extends bk br s (with_new br (c ∷ d ∷ []) (e ∷ []))
+  Does (Grows x r f n) = Extends bk br s (with_new br (constraint br.next f n ∷ []) (edge x r br.next ∷ []))
+  Does (GrowsTwo x r f g n) = Extends bk br s (with_new br (constraint br.next f n ∷ constraint br.next g n ∷ []) (edge x r br.next ∷ []))
   Does (Splitting c d) = Splits bk br s (with br (c ∷ []) []) (with br (d ∷ []) [])
   Does Closing = Closes bk br s
 
@@ -187,7 +187,7 @@ module _ (bk : Book) (br : Branch) (s : Step) where
       (subst (λ v. At br.constraints s.b v) (λ i. constraint (label i) other.form (node i)) (stands br.constraints s.b no_constraint within))
       p.0
 
-  row_does : (o : Op) (f : Form) (m : Node) (x n : ℕ) → Asks o → Says br s.a x f n → node_at bk n ≡ m → DoesSome (row o f m x n passed other br.next)
+  row_does : (o : Op) (f : Form) (m : Node) (x n : ℕ) → Asks o → Says br s.a x f n → node_at bk n ≡ m → DoesSome (row o f m x n passed other)
   row_does op.Negation Holds (Not c) x n h says at = extend_by op.Negation _ h refl (not_holds says at)
   row_does op.Negation Fails (Not c) x n h says at = extend_by op.Negation _ h refl (not_fails says at)
   row_does op.Conjunction Holds (And c d) x n h says at = extend_by op.Conjunction _ h refl (and_holds says at)
@@ -235,7 +235,7 @@ module _ (bk : Book) (br : Branch) (s : Step) where
         (λ h.
         let p = and_parts _ _ h in
         let c = get_or br.constraints s.a no_constraint in
-        fitting (expanded o c (node_at bk c.node) passed other br.next)
+        fitting (expanded o c (node_at bk c.node) passed other)
         (row_does o c.form (node_at bk c.node) c.label c.node (record { is = is; used = used; here = p.1 }) (stands br.constraints s.a no_constraint (ltb-true s.a (length br.constraints) p.0)) refl))
 
     either_does : (b : Bool) → DoesOk (cond b (by_entry bk br o s) (by_constraint bk br o s))
@@ -263,10 +263,10 @@ live_within bk a e live =
 -- a rule decides its step
 module _ (bk : Book) (br : Branch) where
   -- an op on a constraint that is there
-  on_constraint : (o : Op) (a b x : ℕ) (f : Form) (n : ℕ) (m : Node) (e : Effect) → Says br a x f n → node_at bk n ≡ m → there (operand_of o) br b ≡ true → expanded o (constraint x f n) m (get_or br.edges b no_edge) (get_or br.constraints b no_constraint) br.next ≡ Some e → by_constraint bk br o (step (number_of o) a b) ≡ Ok e
+  on_constraint : (o : Op) (a b x : ℕ) (f : Form) (n : ℕ) (m : Node) (e : Effect) → Says br a x f n → node_at bk n ≡ m → there (operand_of o) br b ≡ true → expanded o (constraint x f n) m (get_or br.edges b no_edge) (get_or br.constraints b no_constraint) ≡ Some e → by_constraint bk br o (step (number_of o) a b) ≡ Ok e
   on_constraint o a b x f n m e says at here q =
-      sym (constraint_found bk br o (step (number_of o) a b) (constraint x f n) _ m _ _ _ says.within here
-      (sym (get_or_default br.constraints a no_constraint _ says.within ∙ says.is)) (sym at) refl refl refl (sym (ap (λ v. ok_or v Misfit) q)))
+      sym (constraint_found bk br o (step (number_of o) a b) (constraint x f n) _ m _ _ says.within here
+      (sym (get_or_default br.constraints a no_constraint _ says.within ∙ says.is)) (sym at) refl refl (sym (ap (λ v. ok_or v Misfit) q)))
 
   -- an op on a live entry
   on_entry : (o : Op) (a b : ℕ) (e : Entry) (f : Effect) → Live bk a e → there (operand_of o) br b ≡ true → cited e o b ≡ Some f → by_entry bk br o (step (number_of o) a b) ≡ Ok f

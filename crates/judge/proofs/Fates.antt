@@ -5,7 +5,7 @@ use Rattle.std.proofs.lemmas.Bool.{cond-true, cond-false, and_from, and_parts, l
 use Rattle.logic.specs.declared.tableau.Step.{Step}
 use Rattle.logic.specs.Places.{At}
 use Rattle.logic.specs.Books.{Book}
-use Rattle.logic.specs.Branches.{Branch, start, with, with_new}
+use Rattle.logic.specs.Branches.{Branch, constraint, edge, start, with, with_new}
 use Rattle.logic.specs.Limits.{Lengths}
 use Rattle.logic.specs.Rules.{Extends, Splits, Closes}
 use Rattle.judge.specs.declared.effect.Effect.{Effect}
@@ -60,8 +60,8 @@ module _ (bk : Book) (ls : Lengths) where
   moved (Adds c) br ps = onto (with br (c ∷ []) []) ps
   moved (AddsTwo c d) br ps = onto (with br (c ∷ d ∷ []) []) ps
   moved (Links e) br ps = onto (with br [] (e ∷ [])) ps
-  moved (Grows e c) br ps = onto (with_new br (c ∷ []) (e ∷ [])) ps
-  moved (GrowsTwo e c d) br ps = onto (with_new br (c ∷ d ∷ []) (e ∷ [])) ps
+  moved (Grows x r f n) br ps = onto (with_new br (constraint br.next f n ∷ []) (edge x r br.next ∷ [])) ps
+  moved (GrowsTwo x r f g n) br ps = onto (with_new br (constraint br.next f n ∷ constraint br.next g n ∷ []) (edge x r br.next ∷ [])) ps
   moved (Splitting c d) br ps = onto (with br (c ∷ []) []) (with br (d ∷ []) [] ∷ ps)
   moved Closing br [] = Ok done
   moved Closing br (p ∷ ps) = Ok (working p ps)
@@ -78,8 +78,8 @@ module _ (bk : Book) (ls : Lengths) where
   moved_to (Adds c) br b ps h = let p : with br (c ∷ []) [] ≡ b = cc in ap (λ v. onto v ps) p
   moved_to (AddsTwo c d) br b ps h = let p : with br (c ∷ d ∷ []) [] ≡ b = cc in ap (λ v. onto v ps) p
   moved_to (Links e) br b ps h = let p : with br [] (e ∷ []) ≡ b = cc in ap (λ v. onto v ps) p
-  moved_to (Grows e c) br b ps h = let p : with_new br (c ∷ []) (e ∷ []) ≡ b = cc in ap (λ v. onto v ps) p
-  moved_to (GrowsTwo e c d) br b ps h = let p : with_new br (c ∷ d ∷ []) (e ∷ []) ≡ b = cc in ap (λ v. onto v ps) p
+  moved_to (Grows x r f n) br b ps h = let p : with_new br (constraint br.next f n ∷ []) (edge x r br.next ∷ []) ≡ b = cc in ap (λ v. onto v ps) p
+  moved_to (GrowsTwo x r f g n) br b ps h = let p : with_new br (constraint br.next f n ∷ constraint br.next g n ∷ []) (edge x r br.next ∷ []) ≡ b = cc in ap (λ v. onto v ps) p
   moved_to (Splitting c d) br b ps h = let z : ◌≡◌ {A = ℕ} 0 1 = cc in absurd (omega arith)
   moved_to Closing br b ps h = let z : ◌≡◌ {A = ℕ} 0 1 = cc in absurd (omega arith)
 

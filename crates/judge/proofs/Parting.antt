@@ -47,13 +47,13 @@ module _ (bk : Book) (br : Branch) (o : Op) (s : Step) where
   unfolding by_constraint
   constraint_not_there t = sym (cond-false _ _ _ (and_right _ _ t))
 
-  pub constraint_found : (c d : Constraint) (n : Node) (e : Edge) (y : ℕ) (r : Result Effect StepFault) → s.a < length br.constraints → there (operand_of o) br s.b ≡ true → c ≡ get_or br.constraints s.a no_constraint → n ≡ node_at bk c.node → e ≡ get_or br.edges s.b no_edge → d ≡ get_or br.constraints s.b no_constraint → y ≡ br.next → r ≡ ok_or (expanded o c n e d y) Misfit → r ≡ by_constraint bk br o s
+  pub constraint_found : (c d : Constraint) (n : Node) (e : Edge) (r : Result Effect StepFault) → s.a < length br.constraints → there (operand_of o) br s.b ≡ true → c ≡ get_or br.constraints s.a no_constraint → n ≡ node_at bk c.node → e ≡ get_or br.edges s.b no_edge → d ≡ get_or br.constraints s.b no_constraint → r ≡ ok_or (expanded o c n e d) Misfit → r ≡ by_constraint bk br o s
   unfolding by_constraint
-  constraint_found c d n e y r h t ec en ee ed ey q =
+  constraint_found c d n e r h t ec en ee ed q =
       q
-      ∙ ap (λ v. ok_or (expanded o c v e d y) Misfit) en
-      ∙ ap (λ v. ok_or (expanded o v (node_at bk v.node) e d y) Misfit) ec
-      ∙ (λ i. ok_or (expanded o c' (node_at bk c'.node) (ee i) (ed i) (ey i)) Misfit)
+      ∙ ap (λ v. ok_or (expanded o c v e d) Misfit) en
+      ∙ ap (λ v. ok_or (expanded o v (node_at bk v.node) e d) Misfit) ec
+      ∙ (λ i. ok_or (expanded o c' (node_at bk c'.node) (ee i) (ed i)) Misfit)
       ∙ sym (cond-true _ _ _ (and_from _ _ (lt-ltb s.a (length br.constraints) h) t))
     where
       c' : Constraint

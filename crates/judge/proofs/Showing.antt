@@ -1,7 +1,7 @@
 -- The working lists show where an effect goes. Assumes nothing.
-use Rattle.std.proofs.Common.{◌≡◌, ℕ, ◌+◌, ◌<◌, ◌≤◌, List, [], ◌∷◌, ◌++◌, map, reverse, length, get_or, take, drop, set, Some, Ok, Err, Result, sym, refl, ap, ◌∙◌, subst, ⊎_elim, arith}
+use Rattle.std.proofs.Common.{◌≡◌, ℕ, ◌+◌, ◌<◌, ◌≤◌, List, [], ◌∷◌, ◌++◌, map, reverse, length, get_or, take, drop, set, replicate, Some, Ok, Err, Result, sym, refl, ap, ◌∙◌, subst, ⊎_elim, arith}
 use mathlib.Core.List.{reverse-cons}
-use Rattle.std.proofs.lemmas.List.{length-append, length_push, length-reverse, length-map, take_at, take_all, take-append-le, take-append-drop, take-set, drop-set, get_or_push, append-nil}
+use Rattle.std.proofs.lemmas.List.{length-append, length_push, length-replicate, length-reverse, length-map, take_at, take_all, take-append-le, take-append-drop, take-set, drop-set, get_or_push, append-nil}
 use Rattle.std.proofs.lemmas.Bool.{cases_lt, cond-true, cond-false, lt-ltb, le-ltb}
 use Rattle.logic.specs.declared.tableau.Constraint.{Constraint}
 use Rattle.logic.specs.declared.tableau.Edge.{Edge}
@@ -25,6 +25,11 @@ fronts_with (p ∷ ps) br cs es n h f =
     let b : length p.before.edges ≤ length br.edges = f.2 in
     let d : p.before.next ≤ br.next = f.4 in
     (omega (arith, length-append br.constraints cs), take-append-le (length p.before.constraints) br.constraints cs (omega arith) ∙ f.1, omega (arith, length-append br.edges es), take-append-le (length p.before.edges) br.edges es (omega arith) ∙ f.3, omega arith, f.5)
+
+-- a branch of which so much is in use
+pub some_branch : (at : Counts) → (br : Branch) × Counted at br
+some_branch at =
+    (record { constraints = replicate at.constraints no_constraint; edges = replicate at.edges no_edge; next = at.labels }, record { constraints = length-replicate at.constraints no_constraint; edges = length-replicate at.edges no_edge; labels = refl })
 
 -- a branch with one label more
 abbrev pub next_label : Branch → Branch
@@ -68,14 +73,15 @@ module _ (br : Branch) (ps : List Pending) (at : Counts) (cs : List Constraint) 
         fronts = subst (λ b. Fronts ps b) (λ i. record { constraints = append-nil br.constraints i; edges = append-nil br.edges i; next = br.next + 1 }) (fronts_with ps br [] [] (br.next + 1) (omega arith) s.fronts);
       }
 
-  pub label_more : (n : Counts) → ◌≡◌ {A = Result Counts StepFault} (Ok n) (labelled at) → Shown (next_label br) ps n cs es ss
-  label_more n e =
+  pub label_more : (y : ℕ) (n : Counts) → ◌≡◌ {A = Result (ℕ × Counts) StepFault} (Ok (y, n)) (labelled at) → (y ≡ br.next) × Shown (next_label br) ps n cs es ss
+  label_more y n e =
       ⊎_elim
       (λ (h : at.labels < 256).
-      let p : ◌≡◌ {A = Result Counts StepFault} (Ok n) (Ok more) = e ∙ cond-true _ _ _ (lt-ltb at.labels 256 h) in
-      let q : n ≡ more = cc in subst (λ m. Shown (next_label br) ps m cs es ss) (sym q) (shown_more h))
+      let p : ◌≡◌ {A = Result (ℕ × Counts) StepFault} (Ok (y, n)) (Ok (at.labels, more)) = e ∙ cond-true _ _ _ (lt-ltb at.labels 256 h) in
+      let q : (y, n) ≡ (at.labels, more) = cc in
+      (ap (λ (v : ℕ × Counts). v.0) q ∙ sym s.labels, subst (λ (v : ℕ × Counts). Shown (next_label br) ps v.1 cs es ss) (sym q) (shown_more h)))
       (λ (h : 256 ≤ at.labels).
-      let p : ◌≡◌ {A = Result Counts StepFault} (Ok n) (Err Full) = e ∙ cond-false _ _ _ (le-ltb at.labels 256 h) in
+      let p : ◌≡◌ {A = Result (ℕ × Counts) StepFault} (Ok (y, n)) (Err Full) = e ∙ cond-false _ _ _ (le-ltb at.labels 256 h) in
       let z : ◌≡◌ {A = ℕ} 0 1 = cc in absurd (omega arith))
       (cases_lt at.labels 256)
 

@@ -75,7 +75,7 @@ module _ (bk : Book) (br : Branch) (s : Step) where
   sorted_op (Some o) =
       let c = get_or br.constraints s.a no_constraint in
       told (stray (operand_of o) s.b) (cites o) (leb (length bk.lines) s.a) (there (operand_of o) br s.b) (ltb s.a (length br.constraints)) (line_at bk s.a).live
-      (cited (line_at bk s.a).entry o s.b) (expanded o c (node_at bk c.node) (get_or br.edges s.b no_edge) (get_or br.constraints s.b no_constraint) br.next)
+      (cited (line_at bk s.a).entry o s.b) (expanded o c (node_at bk c.node) (get_or br.edges s.b no_edge) (get_or br.constraints s.b no_constraint))
 
   sorted : (r : Result Effect StepFault) → decision bk br s ≡ r → Sorted r
   sorted r h = subst Sorted h (sorted_op (op_of s.op))
@@ -86,7 +86,7 @@ module _ (bk : Book) (br : Branch) (s : Step) where
   failed_op (Some o) f e =
       let c = get_or br.constraints s.a no_constraint in
       failed (stray (operand_of o) s.b) (cites o) (leb (length bk.lines) s.a) (there (operand_of o) br s.b) (ltb s.a (length br.constraints)) (line_at bk s.a).live
-      (cited (line_at bk s.a).entry o s.b) (expanded o c (node_at bk c.node) (get_or br.edges s.b no_edge) (get_or br.constraints s.b no_constraint) br.next) f e
+      (cited (line_at bk s.a).entry o s.b) (expanded o c (node_at bk c.node) (get_or br.edges s.b no_edge) (get_or br.constraints s.b no_constraint)) f e
 
   by_tests : (f : StepFault) → first_failed (malformed s) (never_entered bk s) (not_there br s) (struck bk s) ≡ Some f → decision bk br s ≡ Err f
   by_tests f e = failed_op (op_of s.op) f e
@@ -118,8 +118,8 @@ module _ (bk : Book) (br : Branch) (s : Step) where
     ruled (Adds c) h n = n.extends _ (does bk br s (Adds c) h)
     ruled (AddsTwo c d) h n = n.extends _ (does bk br s (AddsTwo c d) h)
     ruled (Links e) h n = n.extends _ (does bk br s (Links e) h)
-    ruled (Grows e c) h n = n.extends _ (does bk br s (Grows e c) h)
-    ruled (GrowsTwo e c d) h n = n.extends _ (does bk br s (GrowsTwo e c d) h)
+    ruled (Grows x r f m) h n = n.extends _ (does bk br s (Grows x r f m) h)
+    ruled (GrowsTwo x r f g m) h n = n.extends _ (does bk br s (GrowsTwo x r f g m) h)
     ruled (Splitting c d) h n = n.splits _ _ (does bk br s (Splitting c d) h)
     ruled Closing h n = n.closes (does bk br s Closing h)
 

@@ -5,7 +5,7 @@ use Rattle.logic.specs.declared.tableau.Constraint.{Constraint}
 use Rattle.logic.specs.declared.tableau.Edge.{Edge}
 use Rattle.logic.specs.declared.tableau.Step.{Step}
 use Rattle.logic.specs.Books.{Book}
-use Rattle.logic.specs.Branches.{Branch, with, with_new}
+use Rattle.logic.specs.Branches.{Branch, constraint, edge, with, with_new}
 use Rattle.logic.specs.Limits.{Lengths}
 use Rattle.logic.specs.Rules.{Extends}
 use Rattle.judge.specs.declared.effect.Effect.{Effect}
@@ -55,8 +55,8 @@ module _ (bk : Book) (ls : Lengths) (ss : List Step) (s : Step) (br : Branch) (S
   stepped (Adds c) ps n u h m = extends (with br (c ∷ []) []) ps n u (does bk br s (Adds c) h) m
   stepped (AddsTwo c d) ps n u h m = extends (with br (c ∷ d ∷ []) []) ps n u (does bk br s (AddsTwo c d) h) m
   stepped (Links e) ps n u h m = extends (with br [] (e ∷ [])) ps n u (does bk br s (Links e) h) m
-  stepped (Grows e c) ps n u h m = extends (with_new br (c ∷ []) (e ∷ [])) ps n u (does bk br s (Grows e c) h) m
-  stepped (GrowsTwo e c d) ps n u h m = extends (with_new br (c ∷ d ∷ []) (e ∷ [])) ps n u (does bk br s (GrowsTwo e c d) h) m
+  stepped (Grows x r f k) ps n u h m = extends (with_new br (constraint br.next f k ∷ []) (edge x r br.next ∷ [])) ps n u (does bk br s (Grows x r f k) h) m
+  stepped (GrowsTwo x r f g k) ps n u h m = extends (with_new br (constraint br.next f k ∷ constraint br.next g k ∷ []) (edge x r br.next ∷ [])) ps n u (does bk br s (GrowsTwo x r f g k) h) m
   stepped (Splits c d) ps n u h m = splits c d ps n u h m
   stepped Closes ps n u h m = closes ps n u h m
 
@@ -69,8 +69,8 @@ module _ (bk : Book) (s : Step) (br : Branch) (at : Counts) (cs : List Constrain
   crowded (Adds c) ps f Shows w h m = (m.0, branch_full (does bk br s (Adds c) h) m.1)
   crowded (AddsTwo c d) ps f Shows w h m = (m.0, branch_full (does bk br s (AddsTwo c d) h) m.1)
   crowded (Links e) ps f Shows w h m = (m.0, branch_full (does bk br s (Links e) h) m.1)
-  crowded (Grows e c) ps f Shows w h m = (m.0, branch_full (does bk br s (Grows e c) h) m.1)
-  crowded (GrowsTwo e c d) ps f Shows w h m = (m.0, branch_full (does bk br s (GrowsTwo e c d) h) m.1)
+  crowded (Grows x r g k) ps f Shows w h m = (m.0, branch_full (does bk br s (Grows x r g k) h) m.1)
+  crowded (GrowsTwo x r g i k) ps f Shows w h m = (m.0, branch_full (does bk br s (GrowsTwo x r g i k) h) m.1)
   crowded (Splits c d) ps f Shows w h m = (m.0, split_full (does bk br s (Splits c d) h) m.1)
   crowded Closes [] f Shows w h m = absurd m
   crowded Closes (p ∷ ps) f Shows w h m = absurd (m.1 (second_room br p ps at cs es sp w))

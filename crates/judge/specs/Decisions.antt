@@ -40,30 +40,30 @@ denies Bars Admits = true
 denies _ _ = false
 
 -- By op, form and kind of node: x and n are the label and the node of the constraint, e and d are the edge
--- and the other constraint that the step names, y the next new label.
-abbrev pub row : Op → Form → Node → ℕ → ℕ → Edge → Constraint → ℕ → Option Effect
-row op.Negation Holds (node.Not c) x n e d y = Some (Adds (constraint x Fails c))
-row op.Negation Fails (node.Not c) x n e d y = Some (Adds (constraint x Holds c))
-row op.Conjunction Holds (node.And a c) x n e d y = Some (AddsTwo (constraint x Holds a) (constraint x Holds c))
-row op.Conjunction Fails (node.Or a c) x n e d y = Some (AddsTwo (constraint x Fails a) (constraint x Fails c))
-row op.Disjunction Holds (node.Or a c) x n e d y = Some (Splits (constraint x Holds a) (constraint x Holds c))
-row op.Disjunction Fails (node.And a c) x n e d y = Some (Splits (constraint x Fails a) (constraint x Fails c))
-row op.Successor Holds (node.Exists r c) x n e d y = Some (Grows (edge x r y) (constraint y Holds c))
-row op.Successor Fails (node.All r c) x n e d y = Some (Grows (edge x r y) (constraint y Fails c))
-row op.AlongRole Holds (node.All r c) x n e d y = along e x r (Adds (constraint e.to Holds c))
-row op.AlongRole Fails (node.Exists r c) x n e d y = along e x r (Adds (constraint e.to Fails c))
-row op.Typical Holds (node.Typical c) x n e d y = Some (AddsTwo (constraint x Holds c) (constraint x Bars c))
-row op.Atypical Fails (node.Typical c) x n e d y = Some (Splits (constraint x Fails c) (constraint x Admits c))
-row op.Better Admits m x n e d y = Some (GrowsTwo (edge x 16 y) (constraint y Holds n) (constraint y Bars n))
-row op.AlongBetter Bars m x n e d y = along e x 16 (AddsTwo (constraint e.to Fails n) (constraint e.to Bars n))
-row op.Clash f m x n e d y = cond (denies f d.form && alike d x n) (Some Closes) None
-row op.Absurd Holds node.Bottom x n e d y = Some Closes
-row op.Absurd Fails node.Top x n e d y = Some Closes
-row _ _ _ x n e d y = None
+-- and the other constraint that the step names.
+abbrev pub row : Op → Form → Node → ℕ → ℕ → Edge → Constraint → Option Effect
+row op.Negation Holds (node.Not c) x n e d = Some (Adds (constraint x Fails c))
+row op.Negation Fails (node.Not c) x n e d = Some (Adds (constraint x Holds c))
+row op.Conjunction Holds (node.And a c) x n e d = Some (AddsTwo (constraint x Holds a) (constraint x Holds c))
+row op.Conjunction Fails (node.Or a c) x n e d = Some (AddsTwo (constraint x Fails a) (constraint x Fails c))
+row op.Disjunction Holds (node.Or a c) x n e d = Some (Splits (constraint x Holds a) (constraint x Holds c))
+row op.Disjunction Fails (node.And a c) x n e d = Some (Splits (constraint x Fails a) (constraint x Fails c))
+row op.Successor Holds (node.Exists r c) x n e d = Some (Grows x r Holds c)
+row op.Successor Fails (node.All r c) x n e d = Some (Grows x r Fails c)
+row op.AlongRole Holds (node.All r c) x n e d = along e x r (Adds (constraint e.to Holds c))
+row op.AlongRole Fails (node.Exists r c) x n e d = along e x r (Adds (constraint e.to Fails c))
+row op.Typical Holds (node.Typical c) x n e d = Some (AddsTwo (constraint x Holds c) (constraint x Bars c))
+row op.Atypical Fails (node.Typical c) x n e d = Some (Splits (constraint x Fails c) (constraint x Admits c))
+row op.Better Admits m x n e d = Some (GrowsTwo x 16 Holds Bars n)
+row op.AlongBetter Bars m x n e d = along e x 16 (AddsTwo (constraint e.to Fails n) (constraint e.to Bars n))
+row op.Clash f m x n e d = cond (denies f d.form && alike d x n) (Some Closes) None
+row op.Absurd Holds node.Bottom x n e d = Some Closes
+row op.Absurd Fails node.Top x n e d = Some Closes
+row _ _ _ x n e d = None
 
 -- an op on constraint c, which is on node m, and the edge and the constraint that the step names
-abbrev pub expanded : Op → Constraint → Node → Edge → Constraint → ℕ → Option Effect
-expanded o c m e d y = row o c.form m c.label c.node e d y
+abbrev pub expanded : Op → Constraint → Node → Edge → Constraint → Option Effect
+expanded o c m e d = row o c.form m c.label c.node e d
 
 -- an op on an entry, at label x
 abbrev pub cited : Entry → Op → ℕ → Option Effect
@@ -86,7 +86,7 @@ unfoldable pub by_constraint : Book → Branch → Op → Step → Result Effect
 by_constraint bk br o s =
     let c : Constraint = slice_index_or br.constraints s.a no_constraint in
     cond (nat_lt s.a (length br.constraints) && there (operand_of o) br s.b)
-    (ok_or (expanded o c (node_at bk c.node) (slice_index_or br.edges s.b no_edge) (slice_index_or br.constraints s.b no_constraint) br.next) Misfit)
+    (ok_or (expanded o c (node_at bk c.node) (slice_index_or br.edges s.b no_edge) (slice_index_or br.constraints s.b no_constraint)) Misfit)
     (Err NotThere)
 
 abbrev pub by_op : Book → Branch → Step → Op → Result Effect StepFault

@@ -3,10 +3,10 @@
 -- Shown: what lists show. State: what is worked. Holds, Sound, Small: what the working lists hold. after: where the
 -- work goes after an effect. Moved, Goes: what code makes of it.
 -- Assumes nothing.
-use Rattle.std.specs.Prelude.{◌≡◌, ◌+◌, ◌<◌, ◌≤◌, nat_lt, if◌then◌else◌, List, [], ◌∷◌, map, reverse, length, take, Some, None, Ok, Err, Option, Result}
+use Rattle.std.specs.Prelude.{◌≡◌, ℕ, ◌+◌, ◌<◌, ◌≤◌, nat_lt, if◌then◌else◌, List, [], ◌∷◌, map, reverse, length, take, Some, None, Ok, Err, Option, Result}
 use Rattle.logic.specs.declared.tableau.Constraint.{Constraint}
 use Rattle.logic.specs.declared.tableau.Edge.{Edge}
-use Rattle.logic.specs.Branches.{Branch, with, with_new}
+use Rattle.logic.specs.Branches.{Branch, constraint, edge, with, with_new}
 use Rattle.logic.specs.Limits.{Lengths}
 use Rattle.judge.specs.declared.working.Split.{Split}
 use Rattle.judge.specs.declared.working.Counts.{Counts}
@@ -25,10 +25,10 @@ pub record Counted (at : Counts) (br : Branch) : Type 0 where
   pub edges : length br.edges ≡ at.edges
   pub labels : br.next ≡ at.labels
 
--- one label more, if it is none above 255
-abbrev pub labelled : Counts → Result Counts StepFault
+-- a new label and the counts with it, if it is none above 255
+abbrev pub labelled : Counts → Result (ℕ × Counts) StepFault
 labelled at =
-    if nat_lt at.labels 256 then Ok (record { constraints = at.constraints; edges = at.edges; splits = at.splits; labels = at.labels + 1 }) else Err Full
+    if nat_lt at.labels 256 then Ok (at.labels, record { constraints = at.constraints; edges = at.edges; splits = at.splits; labels = at.labels + 1 }) else Err Full
 
 -- the branch before a split, and the second alternative
 pub record Pending : Type 0 where
@@ -94,8 +94,8 @@ abbrev pub after : Effect → Branch → List Pending → Option State
 after (Adds c) br ps = Some (on (with br (c ∷ []) []) ps)
 after (AddsTwo c d) br ps = Some (on (with br (c ∷ d ∷ []) []) ps)
 after (Links e) br ps = Some (on (with br [] (e ∷ [])) ps)
-after (Grows e c) br ps = Some (on (with_new br (c ∷ []) (e ∷ [])) ps)
-after (GrowsTwo e c d) br ps = Some (on (with_new br (c ∷ d ∷ []) (e ∷ [])) ps)
+after (Grows x r f n) br ps = Some (on (with_new br (constraint br.next f n ∷ []) (edge x r br.next ∷ [])) ps)
+after (GrowsTwo x r f g n) br ps = Some (on (with_new br (constraint br.next f n ∷ constraint br.next g n ∷ []) (edge x r br.next ∷ [])) ps)
 after (Splits c d) br ps = Some (on (with br (c ∷ []) []) (record { before = br; second = d } ∷ ps))
 after Closes br ps = back ps
 

@@ -8,7 +8,7 @@ ghost use Rattle.judge.specs.Shown.{Small, Sound, on, back, after, Goes};
 use crate::lists::{append, cut_back};
 use crate::step_fault::StepFault;
 use crate::working::{Counts, Lists, Split};
-use logic::tableau::{Constraint, Edge};
+use logic::tableau::{Constraint, Edge, Form};
 
 #[derive(Clone, Copy)]
 pub enum Effect {
@@ -18,10 +18,21 @@ pub enum Effect {
     AddsTwo(Constraint, Constraint),
     // one edge more
     Links(Edge),
-    // a new label, an edge to it and a constraint at it
-    Grows(Edge, Constraint),
-    // a new label, an edge to it and two constraints at it
-    GrowsTwo(Edge, Constraint, Constraint),
+    // a new label, an edge to it by a role, and a constraint at it
+    Grows {
+        from: u8,
+        role: u8,
+        form: Form,
+        node: u16,
+    },
+    // a new label, an edge to it by a role, and two constraints at it on one node
+    GrowsTwo {
+        from: u8,
+        role: u8,
+        first: Form,
+        second: Form,
+        node: u16,
+    },
     // two branches, each with one constraint more; the first is worked first
     Splits(Constraint, Constraint),
     // the branch contradicts itself
@@ -108,8 +119,46 @@ impl Lists<'_> {
             Effect::Adds(c) => self.extend(at, &[c], &[]),
             Effect::AddsTwo(c, d) => self.extend(at, &[c, d], &[]),
             Effect::Links(e) => self.extend(at, &[], &[e]),
-            Effect::Grows(e, c) => self.extend(at.with_label()?, &[c], &[e]),
-            Effect::GrowsTwo(e, c, d) => self.extend(at.with_label()?, &[c, d], &[e]),
+            Effect::Grows {
+                from,
+                role,
+                form,
+                node,
+            } => {
+                let (label, at) = at.with_label()?;
+                let c = Constraint { label, form, node };
+                let e = Edge {
+                    from,
+                    role,
+                    to: label,
+                };
+                self.extend(at, &[c], &[e])
+            }
+            Effect::GrowsTwo {
+                from,
+                role,
+                first,
+                second,
+                node,
+            } => {
+                let (label, at) = at.with_label()?;
+                let c = Constraint {
+                    label,
+                    form: first,
+                    node,
+                };
+                let d = Constraint {
+                    label,
+                    form: second,
+                    node,
+                };
+                let e = Edge {
+                    from,
+                    role,
+                    to: label,
+                };
+                self.extend(at, &[c, d], &[e])
+            }
             Effect::Splits(c, d) => self.split(at, c, d),
             Effect::Closes => Ok(self.close(at)),
         }

@@ -1,6 +1,9 @@
 // The rules of the tableau: what a step does, by its op and by what it names.
-ghost use Rattle.std.specs.Prelude.{◌≡◌};
+ghost use Rattle.std.specs.Prelude.{◌≡◌, ◌<◌, true};
 ghost use Rattle.logic.specs.Branches.{constraint, edge};
+ghost use Rattle.logic.specs.Lawful.{node_within_limits, entry_within_limits};
+ghost use Rattle.judge.specs.declared.effect.Effect.TheVariants.{Grows, GrowsTwo};
+ghost use Rattle.judge.specs.declared.ops.Op.TheVariants.{Include};
 ghost use Rattle.judge.specs.Decisions.{cited, expanded};
 
 use crate::effect::Effect;
@@ -15,36 +18,63 @@ use logic::tableau::Form::{Admits, Bars, Fails, Holds};
 use logic::tableau::{Constraint, Edge, Form};
 
 // The role of edges to better elements.
-const BETTER: u16 = 16;
+const BETTER: u8 = 16;
 
 // What is said of a node, at a label.
-fn at(label: u16, form: Form, node: u16) -> Constraint
+fn at(label: u8, form: Form, node: u16) -> Constraint
     ensures { result ≡ constraint label form node }
 {
     Constraint { label, form, node }
 }
 
 // The edge from a label to another by a role.
-fn leads(from: u16, role: u16, to: u16) -> Edge
+fn leads(from: u8, role: u8, to: u8) -> Edge
     ensures { result ≡ edge from role to }
 {
     Edge { from, role, to }
 }
 
-// An op on an entry, at label x.
-pub(crate) fn cite(op: Op, entry: Entry, x: u16) -> Option<Effect>
-    ensures { result ≡ cited entry op x }
+// A new label along a role, and what is said of it.
+fn grows(from: u8, role: u8, form: Form, node: u16) -> Effect
+    ensures { result ≡ Grows from role form node }
 {
-    match (op, entry) {
-        (Assert, Entry::Fact(a, c)) => Some(Adds(at(a, Holds, c))),
-        (Assert, Entry::RoleFact(r, a, b)) => Some(Links(leads(a, r, b))),
-        (Include, Entry::Inclusion(c, d)) => Some(Splits(at(x, Fails, c), at(x, Holds, d))),
-        _ => None,
+    Grows {
+        from,
+        role,
+        form,
+        node,
     }
 }
 
-// An op on a constraint, which is on `node`. `edge` and `other` are what else the step may name, and y is
-// the next new label.
+// A new label along a role, and two things that are said of it.
+fn grows_two(from: u8, role: u8, first: Form, second: Form, node: u16) -> Effect
+    ensures { result ≡ GrowsTwo from role first second node }
+{
+    GrowsTwo {
+        from,
+        role,
+        first,
+        second,
+        node,
+    }
+}
+
+// An op on an entry, at label x.
+pub(crate) fn cite(op: Op, entry: Entry, x: u16) -> Option<Effect>
+    requires label { op ≡ Include → x < 256 }
+    requires limits { entry_within_limits entry ≡ true }
+    ensures { result ≡ cited entry op x }
+{
+    let effect = match (op, entry) {
+        (Assert, Entry::Fact(a, c)) => Adds(at(a as u8, Holds, c)),
+        (Assert, Entry::RoleFact(r, a, b)) => Links(leads(a as u8, r as u8, b as u8)),
+        (Include, Entry::Inclusion(c, d)) => Splits(at(x as u8, Fails, c), at(x as u8, Holds, d)),
+        _ => return None,
+    };
+    Some(effect)
+}
+
+// An op on a constraint, which is on `node`. `edge` and `other` are what else the step may name.
 #[inline(always)]
 pub(crate) fn expand(
     op: Op,
@@ -52,9 +82,9 @@ pub(crate) fn expand(
     node: Node,
     edge: Edge,
     other: Constraint,
-    y: u16,
 ) -> Option<Effect>
-    ensures { result ≡ expanded op constraint node edge other y }
+    requires { node_within_limits node ≡ true }
+    ensures { result ≡ expanded op constraint node edge other }
 {
     let x = constraint.label;
     let n = constraint.node;
@@ -66,13 +96,13 @@ pub(crate) fn expand(
         (Conjunction, Fails, Node::Or(c, d)) => AddsTwo(at(x, Fails, c), at(x, Fails, d)),
         (Disjunction, Holds, Node::Or(c, d)) => Splits(at(x, Holds, c), at(x, Holds, d)),
         (Disjunction, Fails, Node::And(c, d)) => Splits(at(x, Fails, c), at(x, Fails, d)),
-        (Successor, Holds, Node::Exists(r, c)) => Grows(leads(x, r, y), at(y, Holds, c)),
-        (Successor, Fails, Node::All(r, c)) => Grows(leads(x, r, y), at(y, Fails, c)),
-        (AlongRole, Holds, Node::All(r, c)) if edge == leads(x, r, z) => Adds(at(z, Holds, c)),
-        (AlongRole, Fails, Node::Exists(r, c)) if edge == leads(x, r, z) => Adds(at(z, Fails, c)),
+        (Successor, Holds, Node::Exists(r, c)) => grows(x, r as u8, Holds, c),
+        (Successor, Fails, Node::All(r, c)) => grows(x, r as u8, Fails, c),
+        (AlongRole, Holds, Node::All(r, c)) if edge == leads(x, r as u8, z) => Adds(at(z, Holds, c)),
+        (AlongRole, Fails, Node::Exists(r, c)) if edge == leads(x, r as u8, z) => Adds(at(z, Fails, c)),
         (Typical, Holds, Node::Typical(c)) => AddsTwo(at(x, Holds, c), at(x, Bars, c)),
         (Atypical, Fails, Node::Typical(c)) => Splits(at(x, Fails, c), at(x, Admits, c)),
-        (Better, Admits, _) => GrowsTwo(leads(x, BETTER, y), at(y, Holds, n), at(y, Bars, n)),
+        (Better, Admits, _) => grows_two(x, BETTER, Holds, Bars, n),
         (AlongBetter, Bars, _) if edge == leads(x, BETTER, z) => AddsTwo(
             at(z, Fails, n),
             at(z, Bars, n),

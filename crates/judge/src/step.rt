@@ -1,6 +1,6 @@
 // One step of a tableau. "For every branch" and "for every state" bind a variable of a statement, and are no fact
 // about a value.
-ghost use Rattle.std.specs.Prelude.{◌≡◌};
+ghost use Rattle.std.specs.Prelude.{◌≡◌, ◌≤◌};
 ghost use Rattle.logic.specs.Branches.{Branch};
 ghost use Rattle.judge.specs.Blanks.{SameLists, lengths_of};
 ghost use Rattle.judge.specs.Ops.{there};
@@ -39,6 +39,7 @@ fn present(operand: Operand, b: u16, at: Counts) -> bool
 
 // An op that names an entry.
 fn by_entry<B: ReadableBook>(book: &B, op: Op, step: Step, at: Counts) -> Result<Effect, StepFault>
+    requires { at.labels ≤ 256 }
     ensures { (br : Branch) → Counted at br → result ≡ by_entry (B.meaning book.now) br op step }
 {
     if step.a >= book.entry_count() {
@@ -72,7 +73,7 @@ fn by_constraint<B: ReadableBook>(
     let c = record_at(lists.constraints, at.constraints, a);
     let edge = record_at(lists.edges, at.edges, b);
     let other = record_at(lists.constraints, at.constraints, b);
-    expand(op, c, book.node_at(c.node), edge, other, at.labels).ok_or(StepFault::Misfit)
+    expand(op, c, book.node_at(c.node), edge, other).ok_or(StepFault::Misfit)
 }
 
 // The effect of a step on an open branch.
@@ -82,6 +83,7 @@ fn decide<B: ReadableBook>(
     lists: &Lists,
     at: Counts,
 ) -> Result<Effect, StepFault>
+    requires { at.labels ≤ 256 }
     ensures { (σ : State) → Holds lists.now at σ → result ≡ decision (B.meaning book.now) σ.branch step }
 {
     let op = Op::try_from(step.op).map_err(|_| StepFault::Malformed)?;

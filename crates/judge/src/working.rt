@@ -52,15 +52,16 @@ impl Counts {
         }
     }
 
-    // One label more, if there may be one.
-    pub(crate) fn with_label(self) -> Result<Counts, StepFault>
+    // A new label, and the counts with it, if there may be one.
+    pub(crate) fn with_label(self) -> Result<(u8, Counts), StepFault>
         ensures { result ≡ labelled self }
     {
         if self.labels < LABELS {
-            Ok(Counts {
+            let counts = Counts {
                 labels: self.labels + 1,
                 ..self
-            })
+            };
+            Ok((self.labels as u8, counts))
         } else {
             Err(StepFault::Full)
         }

@@ -32,7 +32,7 @@ impl From<Form> for u8 {
 // A label stands for an element. Labels 0 to 31 are the individuals; new ones count from 32.
 #[derive(Clone, Copy, PartialEq, Eq)]
 pub struct Constraint {
-    pub label: u16,
+    pub label: u8,
     pub form: Form,
     pub node: u16,
 }
@@ -40,9 +40,9 @@ pub struct Constraint {
 // A role leads from one label to another; at role 16, the second is better than the first.
 #[derive(Clone, Copy, PartialEq, Eq)]
 pub struct Edge {
-    pub from: u16,
-    pub role: u16,
-    pub to: u16,
+    pub from: u8,
+    pub role: u8,
+    pub to: u8,
 }
 
 // A step names a rule by its op, and entries, labels, constraints and edges by their numbers. The op is a

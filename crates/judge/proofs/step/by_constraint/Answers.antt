@@ -1,11 +1,17 @@
 use Rattle.std.proofs.Common.{sym, ap, ◌∙◌, arith}
 use Rattle.std.specs.Option.{ok_or}
 use Rattle.judge.specs.declared.step_fault.StepFault.TheVariants.{Misfit}
+use Rattle.logic.proofs.Lawfulness.{node_within}
 use Rattle.judge.specs.Ops.{there}
 use Rattle.judge.proofs.Parting.{constraint_past, constraint_not_there, constraint_found}
 use Rattle.judge.proofs.Listing.{listed_read}
 use Rattle.judge.proofs.Showing.{counted}
 use Rattle.judge.proofs.step.by_constraint.Goals as goal
+
+pub expand-requires : goal.expand-requires
+expand-requires g c =
+    let bk = g.B.ReadableBook.meaning c.args.book.now in
+    rw c.node_at.ensures (node_within bk (g.B.ReadableBook.lawful c.args.book.now).well_formed c.record_at-c.result.node).0
 
 pub returns-then-a-at : goal.returns-then-a-at
 returns-then-a-at g c =
@@ -20,9 +26,9 @@ returns-then-a-at g c =
 pub returns : goal.returns
 returns g c =
     λ σ h.
-    constraint_found _ σ.branch c.args.op c.args.step c.record_at-c.result c.record_at-other.result c.node_at.result c.record_at-edge.result c.args.at.labels _
+    constraint_found _ σ.branch c.args.op c.args.step c.record_at-c.result c.record_at-other.result c.node_at.result c.record_at-edge.result _
     (omega (arith, h.constraints.count))
     (ap (λ v. there v σ.branch c.args.step.b) (sym c.second.ensures) ∙ sym (c.present.ensures σ.branch (counted _ _ _ _ _ _ h)) ∙ c.if-not-present.false)
     (c.record_at-c.ensures ∙ listed_read _ _ _ _ c.args.step.a h.constraints) c.node_at.ensures (c.record_at-edge.ensures ∙ listed_read _ _ _ _ c.args.step.b h.edges)
-    (c.record_at-other.ensures ∙ listed_read _ _ _ _ c.args.step.b h.constraints) (sym h.labels)
+    (c.record_at-other.ensures ∙ listed_read _ _ _ _ c.args.step.b h.constraints)
     (c.ok_or.ensures.value ∙ ap (λ v. ok_or v Misfit) c.expand.ensures)

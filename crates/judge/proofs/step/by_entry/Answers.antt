@@ -1,10 +1,26 @@
-use Rattle.std.proofs.Common.{sym, ap, ◌∙◌, arith}
+use Rattle.std.proofs.Common.{◌≡◌, ◌<◌, true, sym, ap, ◌∙◌, subst, arith}
 use Rattle.std.specs.Option.{ok_or}
-use Rattle.std.proofs.lemmas.Bool.{not-true, not-false}
+use Rattle.std.proofs.lemmas.Bool.{not-true, not-false, ltb-true}
 use Rattle.judge.specs.declared.step_fault.StepFault.TheVariants.{Misfit}
-use Rattle.judge.specs.Ops.{there}
+use Rattle.logic.proofs.Lawfulness.{entry_within}
+use Rattle.judge.specs.Ops.{operand_of, there}
 use Rattle.judge.proofs.Parting.{entry_never, entry_not_there, entry_struck, entry_found}
+use Rattle.judge.proofs.Showing.{some_branch}
 use Rattle.judge.proofs.step.by_entry.Goals as goal
+
+pub cite-requires-clause-label : goal.cite-requires-clause-label
+cite-requires-clause-label g c =
+    λ is.
+    let some = some_branch c.args.at in
+    let seen : there (operand_of c.args.op) some.0 c.args.step.b ≡ true =
+    ap (λ v. there v some.0 c.args.step.b) (sym c.second.ensures) ∙ sym (c.present.ensures some.0 some.1) ∙ c.if-not-present.false in
+    let below : c.args.step.b < some.0.next = ltb-true _ _ (subst (λ v. there (operand_of v) some.0 c.args.step.b ≡ true) is seen) in
+    omega (arith, some.1.labels, c.requires)
+
+pub cite-requires-clause-limits : goal.cite-requires-clause-limits
+cite-requires-clause-limits g c =
+    let bk = g.B.ReadableBook.meaning c.args.book.now in
+    rw c.entry_at-line.ensures (entry_within bk (g.B.ReadableBook.lawful c.args.book.now).well_formed c.args.step.a)
 
 pub returns-then-step-entry_count : goal.returns-then-step-entry_count
 returns-then-step-entry_count g c = λ br n. entry_never _ br c.args.op c.args.step (omega arith)
