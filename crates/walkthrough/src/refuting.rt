@@ -52,8 +52,28 @@ impl fmt::Display for Words<Effect> {
             Effect::Adds(c) => write!(f, "{}", Words(c)),
             Effect::AddsTwo(c, d) => write!(f, "{}, {}", Words(c), Words(d)),
             Effect::Links(e) => write!(f, "{}", Words(e)),
-            Effect::Grows(e, c) => write!(f, "{}, {}", Words(e), Words(c)),
-            Effect::GrowsTwo(e, c, d) => write!(f, "{}, {}, {}", Words(e), Words(c), Words(d)),
+            Effect::Grows {
+                from,
+                role,
+                form,
+                node,
+            } => write!(
+                f,
+                "role {role} from {from} to new, new {} node {node}",
+                Words(form)
+            ),
+            Effect::GrowsTwo {
+                from,
+                role,
+                first,
+                second,
+                node,
+            } => write!(
+                f,
+                "role {role} from {from} to new, new {} node {node}, new {} node {node}",
+                Words(first),
+                Words(second)
+            ),
             Effect::Splits(c, d) => write!(f, "split, {}, {}", Words(c), Words(d)),
             Effect::Closes => write!(f, "closed"),
         }
