@@ -27,7 +27,7 @@ use Rattle.judge.specs.declared.step_fault.StepFault.{StepFault}
 use Rattle.judge.specs.declared.step_fault.StepFault.TheVariants.{Malformed, NeverEntered, NotThere, Struck, Misfit}
 use Rattle.judge.specs.Blanks.{no_constraint, no_edge}
 use Rattle.judge.specs.Ops.{op_of, operand_of, cites, stray, there}
-use Rattle.judge.specs.Decisions.{along, alike, denies, row, expanded, cited, by_entry, by_constraint, by_op, decided, decision}
+use Rattle.judge.specs.Decisions.{along, alike, denies, row, named, expanded, cited, by_entry, by_constraint, by_op, decided, decision}
 use Rattle.judge.proofs.Parting.{entry_found, constraint_found}
 
 -- the number of an op
@@ -153,7 +153,7 @@ module _ (bk : Book) (br : Branch) (s : Step) where
   close_by : (o : Op) → Asks o → operand_of o ≡ Unused → Closes bk br (step (number_of o) s.a 0) → Closes bk br s
   close_by o h u r = subst (λ v. Closes bk br v) (unary o h u) r
 
-  -- what else the step names
+  -- what stands where the step may name an edge or a constraint
   abbrev passed : Edge
   passed = get_or br.edges s.b no_edge
 
@@ -187,7 +187,7 @@ module _ (bk : Book) (br : Branch) (s : Step) where
       (subst (λ v. At br.constraints s.b v) (λ i. constraint (label i) other.form (node i)) (stands br.constraints s.b no_constraint within))
       p.0
 
-  row_does : (o : Op) (f : Form) (m : Node) (x n : ℕ) → Asks o → Says br s.a x f n → node_at bk n ≡ m → DoesSome (row o f m x n passed other)
+  row_does : (o : Op) (f : Form) (m : Node) (x n : ℕ) → Asks o → Says br s.a x f n → node_at bk n ≡ m → DoesSome (row o f m x n (named (operand_of o) br s.b).0 (named (operand_of o) br s.b).1)
   row_does op.Negation Holds (Not c) x n h says at = extend_by op.Negation _ h refl (not_holds says at)
   row_does op.Negation Fails (Not c) x n h says at = extend_by op.Negation _ h refl (not_fails says at)
   row_does op.Conjunction Holds (And c d) x n h says at = extend_by op.Conjunction _ h refl (and_holds says at)
@@ -235,7 +235,7 @@ module _ (bk : Book) (br : Branch) (s : Step) where
         (λ h.
         let p = and_parts _ _ h in
         let c = get_or br.constraints s.a no_constraint in
-        fitting (expanded o c (node_at bk c.node) passed other)
+        fitting (expanded o c (node_at bk c.node) (named (operand_of o) br s.b).0 (named (operand_of o) br s.b).1)
         (row_does o c.form (node_at bk c.node) c.label c.node (record { is = is; used = used; here = p.1 }) (stands br.constraints s.a no_constraint (ltb-true s.a (length br.constraints) p.0)) refl))
 
     either_does : (b : Bool) → DoesOk (cond b (by_entry bk br o s) (by_constraint bk br o s))
@@ -263,10 +263,10 @@ live_within bk a e live =
 -- a rule decides its step
 module _ (bk : Book) (br : Branch) where
   -- an op on a constraint that is there
-  on_constraint : (o : Op) (a b x : ℕ) (f : Form) (n : ℕ) (m : Node) (e : Effect) → Says br a x f n → node_at bk n ≡ m → there (operand_of o) br b ≡ true → expanded o (constraint x f n) m (get_or br.edges b no_edge) (get_or br.constraints b no_constraint) ≡ Some e → by_constraint bk br o (step (number_of o) a b) ≡ Ok e
+  on_constraint : (o : Op) (a b x : ℕ) (f : Form) (n : ℕ) (m : Node) (e : Effect) → Says br a x f n → node_at bk n ≡ m → there (operand_of o) br b ≡ true → expanded o (constraint x f n) m (named (operand_of o) br b).0 (named (operand_of o) br b).1 ≡ Some e → by_constraint bk br o (step (number_of o) a b) ≡ Ok e
   on_constraint o a b x f n m e says at here q =
-      sym (constraint_found bk br o (step (number_of o) a b) (constraint x f n) _ m _ _ says.within here
-      (sym (get_or_default br.constraints a no_constraint _ says.within ∙ says.is)) (sym at) refl refl (sym (ap (λ v. ok_or v Misfit) q)))
+      sym (constraint_found bk br o (step (number_of o) a b) (constraint x f n) m _ _ says.within here
+      (sym (get_or_default br.constraints a no_constraint _ says.within ∙ says.is)) (sym at) refl (sym (ap (λ v. ok_or v Misfit) q)))
 
   -- an op on a live entry
   on_entry : (o : Op) (a b : ℕ) (e : Entry) (f : Effect) → Live bk a e → there (operand_of o) br b ≡ true → cited e o b ≡ Some f → by_entry bk br o (step (number_of o) a b) ≡ Ok f

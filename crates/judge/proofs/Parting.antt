@@ -1,5 +1,5 @@
 -- The tests of a decision, one after the other. Assumes nothing.
-use Rattle.std.proofs.Common.{◌≡◌, ℕ, ◌<◌, ◌≤◌, true, false, length, get_or, Err, Result, sym, ap, ◌∙◌}
+use Rattle.std.proofs.Common.{◌≡◌, ℕ, ◌<◌, ◌≤◌, Bool, true, false, cond, length, get_or, Some, None, Err, Result, sym, refl, ap, ◌∙◌, arith}
 use Rattle.std.specs.Option.{ok_or}
 use Rattle.std.proofs.lemmas.Bool.{cond-true, cond-false, and_from, and_left, and_right, lt-ltb, le-ltb, le-leb, lt-leb}
 use Rattle.logic.specs.declared.records.Node.{Node}
@@ -13,9 +13,18 @@ use Rattle.judge.specs.declared.ops.Op.{Op}
 use Rattle.judge.specs.declared.effect.Effect.{Effect}
 use Rattle.judge.specs.declared.step_fault.StepFault.{StepFault}
 use Rattle.judge.specs.declared.step_fault.StepFault.TheVariants.{NeverEntered, NotThere, Struck, Misfit}
-use Rattle.judge.specs.Blanks.{no_constraint, no_edge}
+use Rattle.judge.specs.Blanks.{no_constraint}
 use Rattle.judge.specs.Ops.{operand_of, there}
-use Rattle.judge.specs.Decisions.{cited, expanded, by_entry, by_constraint}
+use Rattle.judge.specs.Decisions.{cited, named, expanded, by_entry, by_constraint}
+
+-- an answer that is there only where a test holds
+pub some_where : {A : Type 0} (b : Bool) (x y : A) → Some x ≡ cond b (Some y) None → (b ≡ true) × (x ≡ y)
+some_where true x y e = (refl, cc)
+some_where false x y e = let z : ◌≡◌ {A = ℕ} 0 1 = cc in absurd (omega arith)
+
+pub none_where : {A : Type 0} (b : Bool) (y : A) → None ≡ cond b (Some y) None → b ≡ false
+none_where true y e = let z : ◌≡◌ {A = ℕ} 0 1 = cc in absurd (omega arith)
+none_where false y e = refl
 
 module _ (bk : Book) (br : Branch) (o : Op) (s : Step) where
   pub entry_never : length bk.lines ≤ s.a → Err NeverEntered ≡ by_entry bk br o s
@@ -47,13 +56,13 @@ module _ (bk : Book) (br : Branch) (o : Op) (s : Step) where
   unfolding by_constraint
   constraint_not_there t = sym (cond-false _ _ _ (and_right _ _ t))
 
-  pub constraint_found : (c d : Constraint) (n : Node) (e : Edge) (r : Result Effect StepFault) → s.a < length br.constraints → there (operand_of o) br s.b ≡ true → c ≡ get_or br.constraints s.a no_constraint → n ≡ node_at bk c.node → e ≡ get_or br.edges s.b no_edge → d ≡ get_or br.constraints s.b no_constraint → r ≡ ok_or (expanded o c n e d) Misfit → r ≡ by_constraint bk br o s
+  pub constraint_found : (c : Constraint) (n : Node) (e : Edge × Constraint) (r : Result Effect StepFault) → s.a < length br.constraints → there (operand_of o) br s.b ≡ true → c ≡ get_or br.constraints s.a no_constraint → n ≡ node_at bk c.node → e ≡ named (operand_of o) br s.b → r ≡ ok_or (expanded o c n e.0 e.1) Misfit → r ≡ by_constraint bk br o s
   unfolding by_constraint
-  constraint_found c d n e r h t ec en ee ed q =
+  constraint_found c n e r h t ec en ee q =
       q
-      ∙ ap (λ v. ok_or (expanded o c v e d) Misfit) en
-      ∙ ap (λ v. ok_or (expanded o v (node_at bk v.node) e d) Misfit) ec
-      ∙ (λ i. ok_or (expanded o c' (node_at bk c'.node) (ee i) (ed i)) Misfit)
+      ∙ ap (λ v. ok_or (expanded o c v e.0 e.1) Misfit) en
+      ∙ ap (λ v. ok_or (expanded o v (node_at bk v.node) e.0 e.1) Misfit) ec
+      ∙ ap (λ (v : Edge × Constraint). ok_or (expanded o c' (node_at bk c'.node) v.0 v.1) Misfit) ee
       ∙ sym (cond-true _ _ _ (and_from _ _ (lt-ltb s.a (length br.constraints) h) t))
     where
       c' : Constraint

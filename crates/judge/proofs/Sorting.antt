@@ -12,9 +12,9 @@ use Rattle.judge.specs.declared.effect.Effect.{Effect}
 use Rattle.judge.specs.declared.effect.Effect.TheVariants.{Adds, AddsTwo, Links, Grows, GrowsTwo, Splits as Splitting, Closes as Closing}
 use Rattle.judge.specs.declared.step_fault.StepFault.{StepFault}
 use Rattle.judge.specs.declared.step_fault.StepFault.TheVariants.{Malformed, NeverEntered, NotThere, Struck, Misfit, Full}
-use Rattle.judge.specs.Blanks.{no_constraint, no_edge}
+use Rattle.judge.specs.Blanks.{no_constraint}
 use Rattle.judge.specs.Ops.{op_of, operand_of, cites, stray, there, on_branch, test_op, malformed, never_entered, not_there, struck}
-use Rattle.judge.specs.Decisions.{expanded, cited, by_entry, by_constraint, decided, decision}
+use Rattle.judge.specs.Decisions.{named, expanded, cited, by_entry, by_constraint, decided, decision}
 use Rattle.judge.specs.Reasons.{Named, NoRoom, Because}
 use Rattle.judge.proofs.Agreeing.{does, closes_decides, splits_decides, extends_decides}
 
@@ -75,7 +75,7 @@ module _ (bk : Book) (br : Branch) (s : Step) where
   sorted_op (Some o) =
       let c = get_or br.constraints s.a no_constraint in
       told (stray (operand_of o) s.b) (cites o) (leb (length bk.lines) s.a) (there (operand_of o) br s.b) (ltb s.a (length br.constraints)) (line_at bk s.a).live
-      (cited (line_at bk s.a).entry o s.b) (expanded o c (node_at bk c.node) (get_or br.edges s.b no_edge) (get_or br.constraints s.b no_constraint))
+      (cited (line_at bk s.a).entry o s.b) (expanded o c (node_at bk c.node) (named (operand_of o) br s.b).0 (named (operand_of o) br s.b).1)
 
   sorted : (r : Result Effect StepFault) → decision bk br s ≡ r → Sorted r
   sorted r h = subst Sorted h (sorted_op (op_of s.op))
@@ -86,7 +86,7 @@ module _ (bk : Book) (br : Branch) (s : Step) where
   failed_op (Some o) f e =
       let c = get_or br.constraints s.a no_constraint in
       failed (stray (operand_of o) s.b) (cites o) (leb (length bk.lines) s.a) (there (operand_of o) br s.b) (ltb s.a (length br.constraints)) (line_at bk s.a).live
-      (cited (line_at bk s.a).entry o s.b) (expanded o c (node_at bk c.node) (get_or br.edges s.b no_edge) (get_or br.constraints s.b no_constraint)) f e
+      (cited (line_at bk s.a).entry o s.b) (expanded o c (node_at bk c.node) (named (operand_of o) br s.b).0 (named (operand_of o) br s.b).1) f e
 
   by_tests : (f : StepFault) → first_failed (malformed s) (never_entered bk s) (not_there br s) (struck bk s) ≡ Some f → decision bk br s ≡ Err f
   by_tests f e = failed_op (op_of s.op) f e

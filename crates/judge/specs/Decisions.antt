@@ -1,6 +1,7 @@
 -- What a step does to a branch, computed. It serves the contracts of private functions: that it agrees
 -- with the rules of the calculus is proved, and no public promise cites it.
--- cited, expanded: the effect of an op on an entry and on a constraint. decision: that of a step.
+-- named: what operand b names. cited, expanded: the effect of an op on an entry and on a constraint.
+-- decision: that of a step.
 -- Assumes nothing.
 use Rattle.std.specs.Prelude.{ℕ, Bool, true, false, cond, ◌&&◌, length, Some, None, Err, Option, Result, ◌==◌, nat_le, nat_lt, slice_index_or}
 use Rattle.std.specs.Option.{ok_or}
@@ -18,6 +19,8 @@ use Rattle.logic.specs.Books.{Book, node_at, line_at}
 use Rattle.logic.specs.Branches.{Branch, constraint, edge}
 use Rattle.judge.specs.declared.ops.Op.{Op}
 use Rattle.judge.specs.declared.ops.Op.TheVariants as op
+use Rattle.judge.specs.declared.ops.Operand.{Operand}
+use Rattle.judge.specs.declared.ops.Operand.TheVariants as operand
 use Rattle.judge.specs.declared.effect.Effect.{Effect}
 use Rattle.judge.specs.declared.effect.Effect.TheVariants.{Adds, AddsTwo, Links, Grows, GrowsTwo, Splits, Closes}
 use Rattle.judge.specs.declared.step_fault.StepFault.{StepFault}
@@ -61,6 +64,12 @@ row op.Absurd Holds node.Bottom x n e d = Some Closes
 row op.Absurd Fails node.Top x n e d = Some Closes
 row _ _ _ x n e d = None
 
+-- the edge and the constraint that operand b names; blanks in place of what it does not name
+abbrev pub named : Operand → Branch → ℕ → Edge × Constraint
+named operand.Edge br b = (slice_index_or br.edges b no_edge, no_constraint)
+named operand.Constraint br b = (no_edge, slice_index_or br.constraints b no_constraint)
+named _ br b = (no_edge, no_constraint)
+
 -- an op on constraint c, which is on node m, and the edge and the constraint that the step names
 abbrev pub expanded : Op → Constraint → Node → Edge → Constraint → Option Effect
 expanded o c m e d = row o c.form m c.label c.node e d
@@ -86,7 +95,7 @@ unfoldable pub by_constraint : Book → Branch → Op → Step → Result Effect
 by_constraint bk br o s =
     let c : Constraint = slice_index_or br.constraints s.a no_constraint in
     cond (nat_lt s.a (length br.constraints) && there (operand_of o) br s.b)
-    (ok_or (expanded o c (node_at bk c.node) (slice_index_or br.edges s.b no_edge) (slice_index_or br.constraints s.b no_constraint)) Misfit)
+    (ok_or (expanded o c (node_at bk c.node) (named (operand_of o) br s.b).0 (named (operand_of o) br s.b).1) Misfit)
     (Err NotThere)
 
 abbrev pub by_op : Book → Branch → Step → Op → Result Effect StepFault

@@ -1,21 +1,21 @@
 // One step of a tableau. "For every branch" and "for every state" bind a variable of a statement, and are no fact
 // about a value.
-ghost use Rattle.std.specs.Prelude.{◌≡◌, ◌≤◌};
+ghost use Rattle.std.specs.Prelude.{◌≡◌, ◌≤◌, Some, None, if◌then◌else◌};
 ghost use Rattle.logic.specs.Branches.{Branch};
 ghost use Rattle.judge.specs.Blanks.{SameLists, lengths_of};
 ghost use Rattle.judge.specs.Ops.{there};
-ghost use Rattle.judge.specs.Decisions.{by_entry, by_constraint, decision};
+ghost use Rattle.judge.specs.Decisions.{named, by_entry, by_constraint, decision};
 ghost use Rattle.judge.specs.Shown.{Counted, State, Holds, Small, Sound};
 ghost use Rattle.judge.specs.Taking.{Took};
 
 use crate::effect::Effect;
-use crate::lists::record_at;
+use crate::lists::{Blank, record_at};
 use crate::ops::{Op, Operand};
 use crate::rule::{cite, expand};
 use crate::step_fault::StepFault;
 use crate::working::{Counts, Lists};
 use books::book::ReadableBook;
-use logic::tableau::Step;
+use logic::tableau::{Constraint, Edge, Step};
 
 // A step that was taken: its effect, and how much of the lists is in use then; nothing, where the last
 // branch is closed.
@@ -55,6 +55,26 @@ fn by_entry<B: ReadableBook>(book: &B, op: Op, step: Step, at: Counts) -> Result
     cite(op, line.entry, step.b).ok_or(StepFault::Misfit)
 }
 
+// What operand b names, if the branch has it; blanks in place of what it does not name.
+fn named(operand: Operand, b: u16, lists: &Lists, at: Counts) -> Option<(Edge, Constraint)>
+    ensures { (σ : State) → Holds lists.now at σ → result ≡ (if there operand σ.branch b then Some (named operand σ.branch b) else None) }
+{
+    let i = b as usize;
+    match operand {
+        Operand::Unused => Some((Edge::blank(), Constraint::blank())),
+        Operand::Label if b < at.labels => Some((Edge::blank(), Constraint::blank())),
+        Operand::Edge if i < at.edges => Some((
+            record_at(lists.edges, at.edges, i),
+            Constraint::blank(),
+        )),
+        Operand::Constraint if i < at.constraints => Some((
+            Edge::blank(),
+            record_at(lists.constraints, at.constraints, i),
+        )),
+        _ => None,
+    }
+}
+
 // An op that names a constraint.
 fn by_constraint<B: ReadableBook>(
     book: &B,
@@ -66,13 +86,13 @@ fn by_constraint<B: ReadableBook>(
     ensures { (σ : State) → Holds lists.now at σ → result ≡ by_constraint (B.meaning book.now) σ.branch op step }
 {
     let a = step.a as usize;
-    let b = step.b as usize;
-    if a >= at.constraints || !present(op.second(), step.b, at) {
+    if a >= at.constraints {
         return Err(StepFault::NotThere);
     }
+    let Some((edge, other)) = named(op.second(), step.b, lists, at) else {
+        return Err(StepFault::NotThere);
+    };
     let c = record_at(lists.constraints, at.constraints, a);
-    let edge = record_at(lists.edges, at.edges, b);
-    let other = record_at(lists.constraints, at.constraints, b);
     expand(op, c, book.node_at(c.node), edge, other).ok_or(StepFault::Misfit)
 }
 
