@@ -29,6 +29,6 @@ returns g c =
     constraint_found _ σ.branch c.args.op c.args.step c.record_at-c.result c.node_at.result (c.in-Some.edge, c.in-Some.other) _
     (omega (arith, h.constraints.count))
     (ap (λ v. there v σ.branch c.args.step.b) (sym c.second.ensures) ∙ met.0)
-    (c.record_at-c.ensures ∙ listed_read _ _ _ _ c.args.step.a h.constraints) c.node_at.ensures
+    (rw c.record_at-c.ensures (listed_read _ _ _ _ c.args.step.a h.constraints)) c.node_at.ensures
     (met.1 ∙ ap (λ v. named v σ.branch c.args.step.b) c.second.ensures)
     (c.ok_or.ensures.value ∙ ap (λ v. ok_or v Misfit) c.expand.ensures)
