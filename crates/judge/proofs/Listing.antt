@@ -1,6 +1,6 @@
 -- Lists of records in use and blanks: more of them, cut back, blanked. Assumes nothing.
-use Rattle.std.proofs.Common.{◌≡◌, ℕ, ◌+◌, ◌-◌, ◌<◌, ◌≤◌, cond, ◌&&◌, ltb, leb, List, [], ◌++◌, length, get_or, take, drop, set, min, replicate, sym, refl, ap, ◌∙◌, subst, ⊎_elim, arith}
-use Rattle.std.proofs.lemmas.List.{length-append, length-take-le, length-drop, drop-drop, length-replicate, get_or_append_left, get_or-append_right, get_or_past, get_or-replicate, get_or-take, get_or-drop, get_or-set_same, get_or-set_other}
+use Rattle.std.proofs.Common.{◌≡◌, ℕ, ◌+◌, ◌-◌, ◌<◌, ◌≤◌, cond, ◌&&◌, ltb, leb, List, [], ◌++◌, length, get_or, take, drop, min, replicate, sym, refl, ap, ◌∙◌, subst, ⊎_elim, arith}
+use Rattle.std.proofs.lemmas.List.{length-append, length-take-le, length-drop, drop-drop, length-replicate, get_or_append_left, get_or-append_right, get_or_past, get_or-replicate, get_or-take, get_or-drop}
 use Rattle.std.proofs.lemmas.Bool.{cases_lt, cases_Bool, cond-true, cond-false, and_from, and_left, and_right, le-leb, lt-ltb, le-ltb, lt-leb}
 use Rattle.judge.specs.Lists.{Blanked, Listed}
 
@@ -84,10 +84,6 @@ module _ {A : Type 0} (z : A) where
       (put_mid_is a blanks l m (omega arith) is i ∙ ap (λ v. cond (leb a i && ltb i (a + length blanks)) v (get_or l i z)) (blank_at (b - a) (i - a))) in
       blanked_end a b c l m (length_mid a blanks l m (omega arith) is)
       (λ i p q. ((λ r. omega arith), (λ r. omega arith))) put
-
-  -- the last record is blanked
-  pub blanked_last : (a b : ℕ) (l : List A) (y : A) → y ≡ z → a < length l → a + 1 ≡ b → Blanked z a b l (set l a y)
-  blanked_last a b l y q h e i = grind (arith, get_or-set_same, get_or-set_other)
 
   -- nothing in use
   pub listed_none : (l : List A) → Listed z l 0 []

@@ -5,7 +5,7 @@ ghost use Rattle.judge.specs.declared.effect.Effect.TheVariants.{Splits};
 ghost use Rattle.judge.specs.Blanks.{SameLists};
 ghost use Rattle.judge.specs.Shown.{Small, Sound, on, back, after, Goes};
 
-use crate::lists::{Blank, append, cut_back};
+use crate::lists::{append, cut_back};
 use crate::step_fault::StepFault;
 use crate::working::{Counts, Lists, Split};
 use logic::tableau::{Constraint, Edge, Form};
@@ -95,7 +95,7 @@ impl Lists<'_> {
         let latest = self.splits[left];
         let constraints = latest.constraints as usize;
         let edges = latest.edges as usize;
-        self.splits[left] = Split::blank();
+        cut_back(self.splits, left, at.splits);
         cut_back(self.constraints, constraints, at.constraints);
         cut_back(self.edges, edges, at.edges);
         self.constraints[constraints] = latest.second;

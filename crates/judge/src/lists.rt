@@ -45,7 +45,12 @@ pub fn cut_back<T: Blank>(list: &mut [T], to: usize, len: usize)
 {
     let end = len.min(list.len());
     if to < end {
-        clear(&mut list[to..end]);
+        // a call for one record would take longer than the record
+        if end - to == 1 {
+            list[to] = T::blank();
+        } else {
+            clear(&mut list[to..end]);
+        }
     }
 }
 

@@ -59,9 +59,11 @@ fn by_entry<B: ReadableBook>(book: &B, op: Op, step: Step, at: Counts) -> Result
 fn named(operand: Operand, b: u16, lists: &Lists, at: Counts) -> Option<(Edge, Constraint)>
     ensures { (σ : State) → Holds lists.now at σ → result ≡ (if there operand σ.branch b then Some (named operand σ.branch b) else None) }
 {
+    if operand == Operand::Unused {
+        return Some((Edge::blank(), Constraint::blank()));
+    }
     let i = b as usize;
     match operand {
-        Operand::Unused => Some((Edge::blank(), Constraint::blank())),
         Operand::Label if b < at.labels => Some((Edge::blank(), Constraint::blank())),
         Operand::Edge if i < at.edges => Some((
             record_at(lists.edges, at.edges, i),

@@ -1,28 +1,25 @@
-use Rattle.std.proofs.Common.{◌<◌, length, get_or, set, arith, rules}
-use Rattle.std.proofs.lemmas.List.{length-set}
+use Rattle.std.proofs.Common.{◌<◌, length, get_or, arith, rules}
 use Rattle.judge.specs.Blanks.{no_split}
-use Rattle.judge.proofs.Listing.{blanked_last}
 use Rattle.judge.proofs.Showing.{latest_within, close_back}
 use Rattle.judge.proofs.working.Lists.close.Goals as goal
 
 pub bounds-self-constraints : goal.bounds-self-constraints
 bounds-self-constraints c =
-    omega (arith, latest_within _ _ _ _ _ _ c.requires.1 c.in_ok-left.left (omega arith), c.cut_back.auto.list)
+    omega (arith, latest_within _ _ _ _ _ _ c.requires.1 c.in_ok-left.left (omega arith), c.cut_back-2.auto.list)
 
 pub offset_bounds-self-constraints : goal.offset_bounds-self-constraints
 offset_bounds-self-constraints c =
-    let within : (get_or c.args.self.now.splits.now c.in_ok-left.left no_split).constraints < length c.cut_back.new.list =
-    omega (arith, latest_within _ _ _ _ _ _ c.requires.1 c.in_ok-left.left (omega arith), c.cut_back.auto.list) in search rules
+    let within : (get_or c.args.self.now.splits.now c.in_ok-left.left no_split).constraints < length c.cut_back-2.new.list =
+    omega (arith, latest_within _ _ _ _ _ _ c.requires.1 c.in_ok-left.left (omega arith), c.cut_back-2.auto.list) in search rules
 
 pub overflow_add-result : goal.overflow_add-result
 overflow_add-result c =
-    let within : (get_or c.args.self.now.splits.now c.in_ok-left.left no_split).constraints < length c.cut_back.new.list =
-    omega (arith, latest_within _ _ _ _ _ _ c.requires.1 c.in_ok-left.left (omega arith), c.cut_back.auto.list) in search rules
+    let within : (get_or c.args.self.now.splits.now c.in_ok-left.left no_split).constraints < length c.cut_back-2.new.list =
+    omega (arith, latest_within _ _ _ _ _ _ c.requires.1 c.in_ok-left.left (omega arith), c.cut_back-2.auto.list) in search rules
 
 pub returns-clause-goes : goal.returns-clause-goes
 returns-clause-goes c =
     λ σ h.
     close_back σ.branch σ.pending c.args.at c.args.self.now.constraints.now c.args.self.now.edges.now c.args.self.now.splits.now h
-    c.in_ok-left.left (omega arith) c.cut_back.new.list c.cut_back-2.new.list (set c.args.self.now.splits.now c.in_ok-left.left c.blank.result)
-    c.cut_back.auto.list c.cut_back-2.auto.list (length-set c.args.self.now.splits.now c.in_ok-left.left c.blank.result)
-    (blanked_last no_split c.in_ok-left.left c.args.at.splits c.args.self.now.splits.now c.blank.result c.blank.ensures (omega (arith, h.splits.fits)) (omega arith)) c.cut_back.ensures c.cut_back-2.ensures
+    c.in_ok-left.left (omega arith) c.cut_back-2.new.list c.cut_back-3.new.list c.cut_back.new.list c.cut_back-2.auto.list c.cut_back-3.auto.list c.cut_back.auto.list
+    c.cut_back.ensures c.cut_back-2.ensures c.cut_back-3.ensures
