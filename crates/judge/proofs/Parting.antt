@@ -1,5 +1,5 @@
 -- The tests of a decision, one after the other. Assumes nothing.
-use Rattle.std.proofs.Common.{◌≡◌, ℕ, ◌<◌, ◌≤◌, Bool, true, false, cond, length, get_or, Some, None, Err, Result, sym, refl, ap, ◌∙◌, arith}
+use Rattle.std.proofs.Common.{◌≡◌, ◌<◌, ◌≤◌, true, false, length, get_or, Err, Result, sym, ap, ◌∙◌}
 use Rattle.std.specs.Option.{ok_or}
 use Rattle.std.proofs.lemmas.Bool.{cond-true, cond-false, and_from, and_left, and_right, lt-ltb, le-ltb, le-leb, lt-leb}
 use Rattle.logic.specs.declared.records.Node.{Node}
@@ -16,15 +16,6 @@ use Rattle.judge.specs.declared.step_fault.StepFault.TheVariants.{NeverEntered, 
 use Rattle.judge.specs.Blanks.{no_constraint}
 use Rattle.judge.specs.Ops.{operand_of, there}
 use Rattle.judge.specs.Decisions.{cited, named, expanded, by_entry, by_constraint}
-
--- an answer that is there only where a test holds
-pub some_where : {A : Type 0} (b : Bool) (x y : A) → Some x ≡ cond b (Some y) None → (b ≡ true) × (x ≡ y)
-some_where true x y e = (refl, cc)
-some_where false x y e = let z : ◌≡◌ {A = ℕ} 0 1 = cc in absurd (omega arith)
-
-pub none_where : {A : Type 0} (b : Bool) (y : A) → None ≡ cond b (Some y) None → b ≡ false
-none_where true y e = let z : ◌≡◌ {A = ℕ} 0 1 = cc in absurd (omega arith)
-none_where false y e = refl
 
 module _ (bk : Book) (br : Branch) (o : Op) (s : Step) where
   pub entry_never : length bk.lines ≤ s.a → Err NeverEntered ≡ by_entry bk br o s

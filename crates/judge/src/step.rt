@@ -1,6 +1,6 @@
 // One step of a tableau. "For every branch" and "for every state" bind a variable of a statement, and are no fact
 // about a value.
-ghost use Rattle.std.specs.Prelude.{◌≡◌, ◌≤◌, Some, None, if◌then◌else◌};
+ghost use Rattle.std.specs.Prelude.{◌≡◌, ◌≤◌};
 ghost use Rattle.logic.specs.Branches.{Branch};
 ghost use Rattle.judge.specs.Blanks.{SameLists, lengths_of};
 ghost use Rattle.judge.specs.Ops.{there};
@@ -55,25 +55,21 @@ fn by_entry<B: ReadableBook>(book: &B, op: Op, step: Step, at: Counts) -> Result
     cite(op, line.entry, step.b).ok_or(StepFault::Misfit)
 }
 
-// What operand b names, if the branch has it; blanks in place of what it does not name.
-fn named(operand: Operand, b: u16, lists: &Lists, at: Counts) -> Option<(Edge, Constraint)>
-    ensures { (σ : State) → Holds lists.now at σ → result ≡ (if there operand σ.branch b then Some (named operand σ.branch b) else None) }
+// The edge and the constraint that operand b names; blanks in place of what it does not name.
+fn named(operand: Operand, b: u16, lists: &Lists, at: Counts) -> (Edge, Constraint)
+    ensures { (σ : State) → Holds lists.now at σ → result ≡ named operand σ.branch b }
 {
-    if operand == Operand::Unused {
-        return Some((Edge::blank(), Constraint::blank()));
-    }
-    let i = b as usize;
+    let b = b as usize;
     match operand {
-        Operand::Label if b < at.labels => Some((Edge::blank(), Constraint::blank())),
-        Operand::Edge if i < at.edges => Some((
-            record_at(lists.edges, at.edges, i),
+        Operand::Edge => (
+            record_at(lists.edges, at.edges, b),
             Constraint::blank(),
-        )),
-        Operand::Constraint if i < at.constraints => Some((
+        ),
+        Operand::Constraint => (
             Edge::blank(),
-            record_at(lists.constraints, at.constraints, i),
-        )),
-        _ => None,
+            record_at(lists.constraints, at.constraints, b),
+        ),
+        _ => (Edge::blank(), Constraint::blank()),
     }
 }
 
@@ -88,13 +84,11 @@ fn by_constraint<B: ReadableBook>(
     ensures { (σ : State) → Holds lists.now at σ → result ≡ by_constraint (B.meaning book.now) σ.branch op step }
 {
     let a = step.a as usize;
-    if a >= at.constraints {
+    if a >= at.constraints || !present(op.second(), step.b, at) {
         return Err(StepFault::NotThere);
     }
-    let Some((edge, other)) = named(op.second(), step.b, lists, at) else {
-        return Err(StepFault::NotThere);
-    };
     let c = record_at(lists.constraints, at.constraints, a);
+    let (edge, other) = named(op.second(), step.b, lists, at);
     expand(op, c, book.node_at(c.node), edge, other).ok_or(StepFault::Misfit)
 }
 
