@@ -2,7 +2,7 @@
 ghost use Rattle.std.specs.Prelude.{◌≡◌, ◌<◌, true};
 ghost use Rattle.logic.specs.Branches.{constraint, edge};
 ghost use Rattle.logic.specs.Lawful.{node_within_limits, entry_within_limits};
-ghost use Rattle.judge.specs.declared.effect.Effect.TheVariants.{Grows, GrowsTwo};
+ghost use Rattle.judge.specs.declared.effect.Effect.TheVariants.{Adds, Grows, GrowsTwo};
 ghost use Rattle.judge.specs.declared.ops.Op.TheVariants.{Include};
 ghost use Rattle.judge.specs.Decisions.{cited, expanded};
 
@@ -32,6 +32,13 @@ fn leads(from: u8, role: u8, to: u8) -> Edge
     ensures { result ≡ edge from role to }
 {
     Edge { from, role, to }
+}
+
+// One thing more that is said.
+fn adds(label: u8, form: Form, node: u16) -> Effect
+    ensures { result ≡ Adds (constraint label form node) }
+{
+    Adds(at(label, form, node))
 }
 
 // A new label along a role, and what is said of it.
@@ -66,7 +73,7 @@ pub(crate) fn cite(op: Op, entry: Entry, x: u16) -> Option<Effect>
     ensures { result ≡ cited entry op x }
 {
     let effect = match (op, entry) {
-        (Assert, Entry::Fact(a, c)) => Adds(at(a as u8, Holds, c)),
+        (Assert, Entry::Fact(a, c)) => adds(a as u8, Holds, c),
         (Assert, Entry::RoleFact(r, a, b)) => Links(leads(a as u8, r as u8, b as u8)),
         (Include, Entry::Inclusion(c, d)) => Splits(at(x as u8, Fails, c), at(x as u8, Holds, d)),
         _ => return None,
@@ -90,16 +97,16 @@ pub(crate) fn expand(
     let n = constraint.node;
     let z = edge.to;
     let effect = match (op, constraint.form, node) {
-        (Negation, Holds, Node::Not(c)) => Adds(at(x, Fails, c)),
-        (Negation, Fails, Node::Not(c)) => Adds(at(x, Holds, c)),
+        (Negation, Holds, Node::Not(c)) => adds(x, Fails, c),
+        (Negation, Fails, Node::Not(c)) => adds(x, Holds, c),
         (Conjunction, Holds, Node::And(c, d)) => AddsTwo(at(x, Holds, c), at(x, Holds, d)),
         (Conjunction, Fails, Node::Or(c, d)) => AddsTwo(at(x, Fails, c), at(x, Fails, d)),
         (Disjunction, Holds, Node::Or(c, d)) => Splits(at(x, Holds, c), at(x, Holds, d)),
         (Disjunction, Fails, Node::And(c, d)) => Splits(at(x, Fails, c), at(x, Fails, d)),
         (Successor, Holds, Node::Exists(r, c)) => grows(x, r as u8, Holds, c),
         (Successor, Fails, Node::All(r, c)) => grows(x, r as u8, Fails, c),
-        (AlongRole, Holds, Node::All(r, c)) if edge == leads(x, r as u8, z) => Adds(at(z, Holds, c)),
-        (AlongRole, Fails, Node::Exists(r, c)) if edge == leads(x, r as u8, z) => Adds(at(z, Fails, c)),
+        (AlongRole, Holds, Node::All(r, c)) if edge == leads(x, r as u8, z) => adds(z, Holds, c),
+        (AlongRole, Fails, Node::Exists(r, c)) if edge == leads(x, r as u8, z) => adds(z, Fails, c),
         (Typical, Holds, Node::Typical(c)) => AddsTwo(at(x, Holds, c), at(x, Bars, c)),
         (Atypical, Fails, Node::Typical(c)) => Splits(at(x, Fails, c), at(x, Admits, c)),
         (Better, Admits, _) => grows_two(x, BETTER, Holds, Bars, n),

@@ -61,10 +61,7 @@ fn named(operand: Operand, b: u16, lists: &Lists, at: Counts) -> (Edge, Constrai
 {
     let b = b as usize;
     match operand {
-        Operand::Edge => (
-            record_at(lists.edges, at.edges, b),
-            Constraint::blank(),
-        ),
+        Operand::Edge => (record_at(lists.edges, at.edges, b), Constraint::blank()),
         Operand::Constraint => (
             Edge::blank(),
             record_at(lists.constraints, at.constraints, b),
