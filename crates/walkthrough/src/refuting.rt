@@ -54,12 +54,12 @@ impl fmt::Display for Words<Effect> {
             Effect::Links(e) => write!(f, "{}", Words(e)),
             Effect::Grows(from, role, form, node) => write!(
                 f,
-                "role {role} from {from} to new, new {} node {node}",
+                "role {role} from {from} to a new label, which {} node {node}",
                 Words(form)
             ),
             Effect::GrowsTwo(from, role, first, second, node) => write!(
                 f,
-                "role {role} from {from} to new, new {} node {node}, new {} node {node}",
+                "role {role} from {from} to a new label, which {} node {node}, {} node {node}",
                 Words(first),
                 Words(second)
             ),
