@@ -6,6 +6,7 @@ Use: tools/plant_bugs.py CRATE [BUG..]   at the top of a clone in which nothing 
                                          With no name, the table begins with the edits that are kept there
 """
 import re
+import signal
 import subprocess
 import sys
 from pathlib import Path
@@ -26,6 +27,7 @@ def tried(crate, planted):
     folder = Path(f"crates/{crate}/must-fail")
     folder.mkdir(exist_ok=True)
     paths = [folder / f"{PREFIX}{name}.edit" for name, *_ in planted]
+    signal.signal(signal.SIGTERM, lambda *_: sys.exit("stopped"))
     try:
         for path, (*_, edit) in zip(paths, planted):
             path.write_text(edit)
@@ -37,7 +39,9 @@ def tried(crate, planted):
 
 
 def row(function, bug, answer):
-    fact = re.search(r"`([\w.-]+)`", answer) if answer.startswith("refused") else None
+    # where a proof names what the bug took away, the refusal says nothing of the contract
+    is_telling = answer.startswith("refused") and "only because" not in answer
+    fact = re.search(r"`([\w.-]+)`", answer) if is_telling else None
     print(f"| {function} | {bug} | {f'at once, `{fact[1]}`' if fact else answer} |")
 
 
