@@ -6,7 +6,6 @@ ghost use Rattle.judge.specs.Blanks.{SameLists};
 ghost use Rattle.judge.specs.Shown.{Small, Sound, on, back, after, Goes};
 
 use crate::lists::{append, cut_back};
-use crate::rule;
 use crate::step_fault::StepFault;
 use crate::working::{Counts, Lists, Split};
 use logic::tableau::{Constraint, Edge, Form};
@@ -19,10 +18,21 @@ pub enum Effect {
     AddsTwo(Constraint, Constraint),
     // one edge more
     Links(Edge),
-    // a new label, an edge to it from a label by a role, and a form of a node at it
-    Grows(u8, u8, Form, u16),
-    // the same, and two forms of the node
-    GrowsTwo(u8, u8, Form, Form, u16),
+    // a new label, an edge to it by a role, and a constraint at it
+    Grows {
+        from: u8,
+        role: u8,
+        form: Form,
+        node: u16,
+    },
+    // a new label, an edge to it by a role, and two constraints at it on one node
+    GrowsTwo {
+        from: u8,
+        role: u8,
+        first: Form,
+        second: Form,
+        node: u16,
+    },
     // two branches, each with one constraint more; the first is worked first
     Splits(Constraint, Constraint),
     // the branch contradicts itself
@@ -109,18 +119,45 @@ impl Lists<'_> {
             Effect::Adds(c) => self.extend(at, &[c], &[]),
             Effect::AddsTwo(c, d) => self.extend(at, &[c, d], &[]),
             Effect::Links(e) => self.extend(at, &[], &[e]),
-            Effect::Grows(from, role, form, node) => {
-                let (y, at) = at.with_label()?;
-                self.extend(
-                    at,
-                    &[rule::at(y, form, node)],
-                    &[rule::leads(from, role, y)],
-                )
+            Effect::Grows {
+                from,
+                role,
+                form,
+                node,
+            } => {
+                let (label, at) = at.with_label()?;
+                let c = Constraint { label, form, node };
+                let e = Edge {
+                    from,
+                    role,
+                    to: label,
+                };
+                self.extend(at, &[c], &[e])
             }
-            Effect::GrowsTwo(from, role, first, second, node) => {
-                let (y, at) = at.with_label()?;
-                let both = [rule::at(y, first, node), rule::at(y, second, node)];
-                self.extend(at, &both, &[rule::leads(from, role, y)])
+            Effect::GrowsTwo {
+                from,
+                role,
+                first,
+                second,
+                node,
+            } => {
+                let (label, at) = at.with_label()?;
+                let c = Constraint {
+                    label,
+                    form: first,
+                    node,
+                };
+                let d = Constraint {
+                    label,
+                    form: second,
+                    node,
+                };
+                let e = Edge {
+                    from,
+                    role,
+                    to: label,
+                };
+                self.extend(at, &[c, d], &[e])
             }
             Effect::Splits(c, d) => self.split(at, c, d),
             Effect::Closes => Ok(self.close(at)),

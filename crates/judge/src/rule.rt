@@ -1,7 +1,8 @@
 // The rules of the tableau: what a step does, by its op and by what it names.
-ghost use Rattle.std.specs.Prelude.{◌≡◌, ◌<◌, ◌&&◌, nat_eq, true};
+ghost use Rattle.std.specs.Prelude.{◌≡◌, ◌<◌, true};
 ghost use Rattle.logic.specs.Branches.{constraint, edge};
 ghost use Rattle.logic.specs.Lawful.{node_within_limits, entry_within_limits};
+ghost use Rattle.judge.specs.declared.effect.Effect.TheVariants.{Grows, GrowsTwo};
 ghost use Rattle.judge.specs.declared.ops.Op.TheVariants.{Include};
 ghost use Rattle.judge.specs.Decisions.{cited, expanded};
 
@@ -20,24 +21,42 @@ use logic::tableau::{Constraint, Edge, Form};
 const BETTER: u8 = 16;
 
 // What is said of a node, at a label.
-pub(crate) fn at(label: u8, form: Form, node: u16) -> Constraint
+fn at(label: u8, form: Form, node: u16) -> Constraint
     ensures { result ≡ constraint label form node }
 {
     Constraint { label, form, node }
 }
 
 // The edge from a label to another by a role.
-pub(crate) fn leads(from: u8, role: u8, to: u8) -> Edge
+fn leads(from: u8, role: u8, to: u8) -> Edge
     ensures { result ≡ edge from role to }
 {
     Edge { from, role, to }
 }
 
-// Whether an edge leads from a label by a role.
-fn along(edge: Edge, from: u8, role: u8) -> bool
-    ensures { result ≡ (nat_eq edge.from from && nat_eq edge.role role) }
+// A new label along a role, and what is said of it.
+fn grows(from: u8, role: u8, form: Form, node: u16) -> Effect
+    ensures { result ≡ Grows from role form node }
 {
-    edge.from == from && edge.role == role
+    Grows {
+        from,
+        role,
+        form,
+        node,
+    }
+}
+
+// A new label along a role, and two things that are said of it.
+fn grows_two(from: u8, role: u8, first: Form, second: Form, node: u16) -> Effect
+    ensures { result ≡ GrowsTwo from role first second node }
+{
+    GrowsTwo {
+        from,
+        role,
+        first,
+        second,
+        node,
+    }
 }
 
 // An op on an entry, at label x.
@@ -77,14 +96,18 @@ pub(crate) fn expand(
         (Conjunction, Fails, Node::Or(c, d)) => AddsTwo(at(x, Fails, c), at(x, Fails, d)),
         (Disjunction, Holds, Node::Or(c, d)) => Splits(at(x, Holds, c), at(x, Holds, d)),
         (Disjunction, Fails, Node::And(c, d)) => Splits(at(x, Fails, c), at(x, Fails, d)),
-        (Successor, Holds, Node::Exists(r, c)) => Grows(x, r as u8, Holds, c),
-        (Successor, Fails, Node::All(r, c)) => Grows(x, r as u8, Fails, c),
-        (AlongRole, Holds, Node::All(r, c)) if along(edge, x, r as u8) => Adds(at(z, Holds, c)),
-        (AlongRole, Fails, Node::Exists(r, c)) if along(edge, x, r as u8) => Adds(at(z, Fails, c)),
+        (Successor, Holds, Node::Exists(r, c)) => grows(x, r as u8, Holds, c),
+        (Successor, Fails, Node::All(r, c)) => grows(x, r as u8, Fails, c),
+        (AlongRole, Holds, Node::All(r, c)) if edge == leads(x, r as u8, z) => Adds(at(
+            z, Holds, c,
+        )),
+        (AlongRole, Fails, Node::Exists(r, c)) if edge == leads(x, r as u8, z) => Adds(at(
+            z, Fails, c,
+        )),
         (Typical, Holds, Node::Typical(c)) => AddsTwo(at(x, Holds, c), at(x, Bars, c)),
         (Atypical, Fails, Node::Typical(c)) => Splits(at(x, Fails, c), at(x, Admits, c)),
-        (Better, Admits, _) => GrowsTwo(x, BETTER, Holds, Bars, n),
-        (AlongBetter, Bars, _) if along(edge, x, BETTER) => AddsTwo(
+        (Better, Admits, _) => grows_two(x, BETTER, Holds, Bars, n),
+        (AlongBetter, Bars, _) if edge == leads(x, BETTER, z) => AddsTwo(
             at(z, Fails, n),
             at(z, Bars, n),
         ),

@@ -52,12 +52,23 @@ impl fmt::Display for Words<Effect> {
             Effect::Adds(c) => write!(f, "{}", Words(c)),
             Effect::AddsTwo(c, d) => write!(f, "{}, {}", Words(c), Words(d)),
             Effect::Links(e) => write!(f, "{}", Words(e)),
-            Effect::Grows(from, role, form, node) => write!(
+            Effect::Grows {
+                from,
+                role,
+                form,
+                node,
+            } => write!(
                 f,
                 "role {role} from {from} to a new label, which {} node {node}",
                 Words(form)
             ),
-            Effect::GrowsTwo(from, role, first, second, node) => write!(
+            Effect::GrowsTwo {
+                from,
+                role,
+                first,
+                second,
+                node,
+            } => write!(
                 f,
                 "role {role} from {from} to a new label, which {} node {node}, {} node {node}",
                 Words(first),
