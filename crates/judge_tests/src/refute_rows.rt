@@ -34,7 +34,10 @@ fn four_entries_are_used(rt: HostRuntime) -> Result<(), Fail> {
 fn wrong_hand_in(rt: HostRuntime) -> Result<(), Fail> {
     let heap = rt.alloc();
     let book = book_of(&rt, heap, &NODES, &ENTRIES)?;
-    assert_eq!(rt; judged(heap, &book, &WRONG_STEPS, room(7, 2))?, Err((10, 6)));
+    assert_eq!(rt;
+        judged(heap, &book, &WRONG_STEPS, room(7, 2))?,
+        Err((10, 6))
+    );
     assert_eq!(rt; judged(heap, &book, &REFUTATION, room(5, 1))?, Err((9, 1)));
     Ok(())
 }
