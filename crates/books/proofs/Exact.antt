@@ -13,7 +13,7 @@ use Rattle.books.specs.declared.faults.Reason.{Reason}
 use Rattle.books.specs.declared.faults.Reason.TheVariants as reasons
 use Rattle.books.specs.declared.faults.OfferFault.{OfferFault}
 use Rattle.books.specs.Faults.{reason_number, offer_fault_number}
-use Rattle.books.specs.Answers.{nodes, entries, Refused}
+use Rattle.books.specs.Answers.{nodes, entries, OfferRefused}
 
 -- no reason has number 0
 reason_not_0 : (r : Reason) → reason_number r ≡ 0 → ⊥
@@ -34,12 +34,12 @@ module _ (bk : Book) (raw : RawNode) where
   pub node_granted_exact : Lawful bk → node_refusal bk raw ≡ 0 → Decides true (NodeFits bk raw)
   node_granted_exact lawful h = let g = node_granted bk raw h in granted_exact (node_of raw, g.0, g.1 lawful)
 
-  pub node_refused_exact : (f : OfferFault RawNode) → Refused nodes bk raw f → Decides false (NodeFits bk raw)
+  pub node_refused_exact : (f : OfferFault RawNode) → OfferRefused nodes bk raw f → Decides false (NodeFits bk raw)
   node_refused_exact f h = refused_exact (node_refusal bk raw) f (node_taken bk raw) h.0
 
 module _ (bk : Book) (raw : RawEntry) where
   pub entry_granted_exact : Lawful bk → entry_refusal bk raw ≡ 0 → Decides true (EntryFits bk raw)
   entry_granted_exact lawful h = let g = entry_granted bk raw h in granted_exact (entry_of raw, g.0, g.1 lawful)
 
-  pub entry_refused_exact : (f : OfferFault RawEntry) → Refused entries bk raw f → Decides false (EntryFits bk raw)
+  pub entry_refused_exact : (f : OfferFault RawEntry) → OfferRefused entries bk raw f → Decides false (EntryFits bk raw)
   entry_refused_exact f h = refused_exact (entry_refusal bk raw) f (entry_taken bk raw) h.0

@@ -4,10 +4,10 @@ use Rattle.std.proofs.lemmas.List.{length_push, length-set, append-nil}
 use Rattle.logic.specs.declared.records.RawNode.{RawNode}
 use Rattle.logic.specs.declared.records.Entry.{Entry}
 use Rattle.logic.specs.declared.records.RawEntry.{RawEntry}
-use Rattle.logic.specs.declared.records.Line.{Line}
+use Rattle.logic.specs.declared.records.StoredEntry.{StoredEntry}
 use Rattle.logic.specs.Written.{node_of, entry_of}
 use Rattle.logic.specs.Concepts.{read, concepts, plain, plain_marks}
-use Rattle.logic.specs.Books.{Book, empty, line_at, struck, with_node, with_entry, with_strike}
+use Rattle.logic.specs.Books.{Book, empty, stored_at, struck, with_node, with_entry, with_strike}
 use Rattle.logic.specs.Lawful.{Lawful}
 use Rattle.logic.specs.Refusals.{node_refusal, entry_refusal}
 use Rattle.logic.proofs.Deciding.{lawful_known}
@@ -17,7 +17,7 @@ use Rattle.books.specs.declared.journal.Journal.{Journal}
 use Rattle.books.specs.declared.journal_record.Record.{Record}
 use Rattle.books.specs.declared.journal_record.Record.TheVariants as records
 use Rattle.books.specs.declared.marked.MarkedNode.{MarkedNode}
-use Rattle.books.specs.Marks.{marks}
+use Rattle.books.specs.Marks.{marks_of_nodes}
 use Rattle.books.specs.Replay.{replay, recorded_nodes, struck_count}
 use Rattle.books.proofs.Changes.{marks_more}
 use Rattle.books.proofs.Replays.{replay-push, marks_push, struck_count_le, struck_count-push, struck_count-set}
@@ -25,11 +25,11 @@ use Rattle.books.proofs.Replays.{replay-push, marks_push, struck_count_le, struc
 -- what holds of the records of a journal, of how many there are, and of its counts of nodes and entries
 pub record Kept (rs : List Record) (len nodes entries : ℕ) : Type 0 where
   pub counted_nodes : nodes ≡ length (replay empty rs).nodes
-  pub counted_entries : entries ≡ length (replay empty rs).lines
-  pub counted : len ≡ nodes + entries + struck_count (replay empty rs).lines
+  pub counted_entries : entries ≡ length (replay empty rs).entries
+  pub counted : len ≡ nodes + entries + struck_count (replay empty rs).entries
   pub few_nodes : nodes ≤ 512
   pub few_entries : entries ≤ 256
-  pub marked : marks (recorded_nodes rs) ≡ plain_marks (replay empty rs).nodes
+  pub marked : marks_of_nodes (recorded_nodes rs) ≡ plain_marks (replay empty rs).nodes
   pub lawful : Lawful (replay empty rs)
 
 -- it holds of every journal
@@ -47,24 +47,24 @@ kept j =
 
 -- there are never more records than the memory that is reserved has room for
 pub room : {rs : List Record} {len nodes entries : ℕ} → Kept rs len nodes entries → len ≤ 1024
-room {rs} k = omega (arith, struck_count_le (replay empty rs).lines, k.counted, k.counted_entries, k.few_nodes, k.few_entries)
+room {rs} k = omega (arith, struck_count_le (replay empty rs).entries, k.counted, k.counted_entries, k.few_nodes, k.few_entries)
 
 -- it holds where the records mean a lawful book of these counts and marks
-kept_by : (rs : List Record) (len nodes entries : ℕ) (bk : Book) → replay empty rs ≡ bk → Lawful bk → nodes ≡ length bk.nodes → entries ≡ length bk.lines → len ≡ nodes + entries + struck_count bk.lines → marks (recorded_nodes rs) ≡ plain_marks bk.nodes → Kept rs len nodes entries
-kept_by rs len nodes entries bk is lawful ns ls all marks =
+kept_by : (rs : List Record) (len nodes entries : ℕ) (bk : Book) → replay empty rs ≡ bk → Lawful bk → nodes ≡ length bk.nodes → entries ≡ length bk.entries → len ≡ nodes + entries + struck_count bk.entries → marks_of_nodes (recorded_nodes rs) ≡ plain_marks bk.nodes → Kept rs len nodes entries
+kept_by rs len nodes entries bk is lawful ns ls all marks_of_nodes =
     record {
       counted_nodes = rw is ns;
       counted_entries = rw is ls;
       counted = rw is all;
       few_nodes = omega (arith, ns, lawful.well_formed.few_nodes);
-      few_entries = omega (arith, ls, lawful.well_formed.few_lines);
-      marked = rw is marks;
+      few_entries = omega (arith, ls, lawful.well_formed.few_entries);
+      marked = rw is marks_of_nodes;
       lawful = rw is lawful;
     }
 
 -- no records yet
 pub kept_new : (rs : List Record) (len : ℕ) → rs ≡ [] → len ≡ 0 → Kept rs len 0 0
-kept_new rs len none zero = kept_by rs len 0 0 empty (ap (replay empty) none) lawful_empty refl refl zero (ap (λ xs. marks (recorded_nodes xs)) none)
+kept_new rs len none zero = kept_by rs len 0 0 empty (ap (replay empty) none) lawful_empty refl refl zero (ap (λ xs. marks_of_nodes (recorded_nodes xs)) none)
 
 -- it holds after one record more
 module _ {rs : List Record} {len nodes entries : ℕ} (k : Kept rs len nodes entries) (rs' : List Record) (len' : ℕ) (longer : len' ≡ len + 1) where
@@ -74,7 +74,7 @@ module _ {rs : List Record} {len nodes entries : ℕ} (k : Kept rs len nodes ent
       let bk = replay empty rs in
       let r = records.Node m in
       let counted : nodes + 1 ≡ length (bk.nodes ++ node_of raw ∷ []) = omega (arith, length_push bk.nodes (node_of raw), k.counted_nodes) in
-      let marked = marks_more bk.nodes _ (marks (recorded_nodes rs)) _ m.node m.plain k.marked (ap (λ x. bk.nodes ++ x ∷ []) (sym is)) (ap (λ xs. marks (recorded_nodes xs)) e ∙ marks_push rs r) mark in
+      let marked = marks_more bk.nodes _ (marks_of_nodes (recorded_nodes rs)) _ m.node m.plain k.marked (ap (λ x. bk.nodes ++ x ∷ []) (sym is)) (ap (λ xs. marks_of_nodes (recorded_nodes xs)) e ∙ marks_push rs r) mark in
       kept_by rs' len' (nodes + 1) entries (with_node bk (node_of raw)) (replay-push rs rs' r e ∙ ap (with_node bk) is) ((node_granted bk raw granted).1 k.lawful) counted k.counted_entries (omega (arith, k.counted)) marked
 
   -- of an entry that was granted
@@ -82,15 +82,15 @@ module _ {rs : List Record} {len nodes entries : ℕ} (k : Kept rs len nodes ent
   kept_entry raw x granted is e =
       let bk = replay empty rs in
       let r = records.Entry x in
-      let l : Line = record { entry = entry_of raw; live = true } in
-      let counted : entries + 1 ≡ length (bk.lines ++ l ∷ []) = omega (arith, length_push bk.lines l, k.counted_entries) in
-      let marked = ap (λ xs. marks (recorded_nodes xs)) e ∙ marks_push rs r ∙ append-nil (marks (recorded_nodes rs)) ∙ k.marked in
-      kept_by rs' len' nodes (entries + 1) (with_entry bk (entry_of raw)) (replay-push rs rs' r e ∙ ap (with_entry bk) is) ((entry_granted bk raw granted).1 k.lawful) k.counted_nodes counted (omega (arith, k.counted, struck_count-push bk.lines l refl)) marked
+      let l : StoredEntry = record { entry = entry_of raw; live = true } in
+      let counted : entries + 1 ≡ length (bk.entries ++ l ∷ []) = omega (arith, length_push bk.entries l, k.counted_entries) in
+      let marked = ap (λ xs. marks_of_nodes (recorded_nodes xs)) e ∙ marks_push rs r ∙ append-nil (marks_of_nodes (recorded_nodes rs)) ∙ k.marked in
+      kept_by rs' len' nodes (entries + 1) (with_entry bk (entry_of raw)) (replay-push rs rs' r e ∙ ap (with_entry bk) is) ((entry_granted bk raw granted).1 k.lawful) k.counted_nodes counted (omega (arith, k.counted, struck_count-push bk.entries l refl)) marked
 
   -- of a strike of a live entry
-  pub kept_strike : (i : ℕ) → (line_at (replay empty rs) i).live ≡ true → rs' ≡ rs ++ records.Strike i ∷ [] → Kept rs' len' nodes entries
+  pub kept_strike : (i : ℕ) → (stored_at (replay empty rs) i).live ≡ true → rs' ≡ rs ++ records.Strike i ∷ [] → Kept rs' len' nodes entries
   kept_strike i live e =
       let bk = replay empty rs in
       let r = records.Strike i in
-      let marked = ap (λ xs. marks (recorded_nodes xs)) e ∙ marks_push rs r ∙ append-nil (marks (recorded_nodes rs)) ∙ k.marked in
-      kept_by rs' len' nodes entries (with_strike bk i) (replay-push rs rs' r e) (lawful_with_strike bk k.lawful i) k.counted_nodes (k.counted_entries ∙ sym (length-set bk.lines i (struck (line_at bk i)))) (omega (arith, k.counted, struck_count-set bk.lines i live)) marked
+      let marked = ap (λ xs. marks_of_nodes (recorded_nodes xs)) e ∙ marks_push rs r ∙ append-nil (marks_of_nodes (recorded_nodes rs)) ∙ k.marked in
+      kept_by rs' len' nodes entries (with_strike bk i) (replay-push rs rs' r e) (lawful_with_strike bk k.lawful i) k.counted_nodes (k.counted_entries ∙ sym (length-set bk.entries i (struck (stored_at bk i)))) (omega (arith, k.counted, struck_count-set bk.entries i live)) marked

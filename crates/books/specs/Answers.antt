@@ -1,7 +1,7 @@
 -- What the calls of an editable book answer, and what the book holds after them. In each relation bk is
 -- the book before the call and bk' the book after it.
 -- Offer: what can be offered to a book. nodes, entries: the two things that can.
--- Tells: what a book says of two of its nodes. Judged: what the tests of an offered record say.
+-- IsPlainnessOf: what a book says of two of its nodes. Judged: what the tests of an offered record say.
 -- OfferAnswer, StrikeAnswer: what a call answers and does.
 -- Assumes nothing.
 use Rattle.std.specs.Prelude.{◌≡◌, ℕ, ◌<◌, ◌≤◌, Bool, true, false, List, length, Ok, Err, Result}
@@ -9,9 +9,9 @@ use Rattle.logic.specs.declared.records.RawNode.{RawNode}
 use Rattle.logic.specs.declared.records.RawEntry.{RawEntry}
 use Rattle.logic.specs.Concepts.{Concept, of, plain}
 use Rattle.logic.specs.Written.{node_of, entry_of}
-use Rattle.logic.specs.Books.{Book, line_at, with_node, with_entry, with_strike}
+use Rattle.logic.specs.Books.{Book, stored_at, with_node, with_entry, with_strike}
 use Rattle.logic.specs.Refusals.{first_unfit, node_refusal, entry_refusal}
-use Rattle.books.specs.declared.offers.Sides.{Sides}
+use Rattle.books.specs.declared.offers.PlainOperands.{PlainOperands}
 use Rattle.books.specs.declared.faults.Unfit.{Unfit}
 use Rattle.books.specs.declared.faults.OfferFault.{OfferFault}
 use Rattle.books.specs.declared.faults.StrikeFault.{StrikeFault}
@@ -19,8 +19,8 @@ use Rattle.books.specs.declared.faults.StrikeFault.TheVariants.{NeverEntered, St
 use Rattle.books.specs.Faults.{unfit_number, offer_fault_number, offer_fault_place, strike_fault_number, strike_fault_place}
 
 -- of the concepts a and b of a list, whether they are plain
-abbrev pub Tells : List Concept → ℕ → ℕ → Sides → Type 0
-Tells cs a b s = (plain (of cs a) ≡ s.plain_a) × (plain (of cs b) ≡ s.plain_b)
+abbrev pub IsPlainnessOf : List Concept → ℕ → ℕ → PlainOperands → Type 0
+IsPlainnessOf cs a b s = (plain (of cs a) ≡ s.plain_a) × (plain (of cs b) ≡ s.plain_b)
 
 -- the first of four tests that fails
 abbrev pub FirstUnfit : Bool → Bool → Bool → Bool → Result (Unit {0}) Unfit → Type 0
@@ -45,27 +45,27 @@ nodes = record { refusal = node_refusal; count = λ bk. length bk.nodes; more = 
 
 -- entries, which are live
 abbrev pub entries : Offer RawEntry
-entries = record { refusal = entry_refusal; count = λ bk. length bk.lines; more = λ bk raw. with_entry bk (entry_of raw) }
+entries = record { refusal = entry_refusal; count = λ bk. length bk.entries; more = λ bk raw. with_entry bk (entry_of raw) }
 
 -- the fault says by its number which test failed first, and by its place how many records there are
-abbrev pub Refused : {R : Type 0} → Offer R → Book → R → OfferFault R → Type 0
-Refused o bk raw f = (o.refusal bk raw ≡ offer_fault_number f) × (offer_fault_place f ≡ o.count bk)
+abbrev pub OfferRefused : {R : Type 0} → Offer R → Book → R → OfferFault R → Type 0
+OfferRefused o bk raw f = (o.refusal bk raw ≡ offer_fault_number f) × (offer_fault_place f ≡ o.count bk)
 
 -- granted: the record is appended, and its number is answered; refused: nothing changed
 abbrev pub OfferAnswer : {R : Type 0} → Offer R → Book → Book → R → Result ℕ (OfferFault R) → Type 0
 OfferAnswer o bk bk' raw (Ok i) = (o.refusal bk raw ≡ 0) × (i ≡ o.count bk) × (bk' ≡ o.more bk raw)
-OfferAnswer o bk bk' raw (Err f) = Refused o bk raw f × (bk' ≡ bk)
+OfferAnswer o bk bk' raw (Err f) = OfferRefused o bk raw f × (bk' ≡ bk)
 
 -- which entries cannot be struck
-abbrev pub NotToStrike : Book → ℕ → StrikeFault → Type 0
-NotToStrike bk i (NeverEntered p) = length bk.lines ≤ i
-NotToStrike bk i (Struck p) = (i < length bk.lines) × ((line_at bk i).live ≡ false)
+abbrev pub CannotStrike : Book → ℕ → StrikeFault → Type 0
+CannotStrike bk i (NeverEntered p) = length bk.entries ≤ i
+CannotStrike bk i (Struck p) = (i < length bk.entries) × ((stored_at bk i).live ≡ false)
 
 -- why an entry is not struck: number 6, and its own number
 abbrev pub StrikeRefused : Book → ℕ → StrikeFault → Type 0
-StrikeRefused bk i f = NotToStrike bk i f × (strike_fault_number f ≡ 6) × (strike_fault_place f ≡ i)
+StrikeRefused bk i f = CannotStrike bk i f × (strike_fault_number f ≡ 6) × (strike_fault_place f ≡ i)
 
 -- granted: a live entry is struck; refused: nothing changed
 abbrev pub StrikeAnswer : Book → Book → ℕ → Result (Unit {0}) StrikeFault → Type 0
-StrikeAnswer bk bk' i (Ok u) = ((line_at bk i).live ≡ true) × (bk' ≡ with_strike bk i)
+StrikeAnswer bk bk' i (Ok u) = ((stored_at bk i).live ≡ true) × (bk' ≡ with_strike bk i)
 StrikeAnswer bk bk' i (Err f) = StrikeRefused bk i f × (bk' ≡ bk)

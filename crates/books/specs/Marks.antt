@@ -1,5 +1,5 @@
 -- Nodes with their marks, and what the tests of an offered record say to a book that keeps them.
--- bare, marks: the nodes and the marks of a list of marked nodes. no_node: what stands past the end.
+-- nodes_of, marks_of_nodes: the nodes and the marks of a list of marked nodes. no_node: what stands past the end.
 -- HasRoom: whether there is room for one more.
 -- NodeOffered, EntryOffered: the record that is offered, or why it is refused.
 -- MayStrike: whether an entry can be struck.
@@ -12,21 +12,21 @@ use Rattle.logic.specs.declared.records.Entry.{Entry}
 use Rattle.logic.specs.declared.records.RawEntry.{RawEntry}
 use Rattle.logic.specs.Concepts.{concepts, read, plain}
 use Rattle.logic.specs.Written.{node_of, entry_of}
-use Rattle.logic.specs.Books.{Book, line_at}
+use Rattle.logic.specs.Books.{Book, stored_at}
 use Rattle.logic.specs.Refusals.{node_refusal, entry_refusal}
 use Rattle.books.specs.declared.marked.MarkedNode.{MarkedNode}
 use Rattle.books.specs.declared.faults.OfferFault.{OfferFault}
 use Rattle.books.specs.declared.faults.StrikeFault.{StrikeFault}
 use Rattle.books.specs.Faults.{offer_fault_number, offer_fault_place}
-use Rattle.books.specs.Answers.{nodes, entries, Refused, StrikeRefused}
+use Rattle.books.specs.Answers.{nodes, entries, OfferRefused, StrikeRefused}
 
 -- the nodes, without their marks
-abbrev pub bare : List MarkedNode → List Node
-bare ms = map (λ m. m.node) ms
+abbrev pub nodes_of : List MarkedNode → List Node
+nodes_of ms = map (λ m. m.node) ms
 
 -- the marks, without their nodes
-abbrev pub marks : List MarkedNode → List Bool
-marks ms = map (λ m. m.plain) ms
+abbrev pub marks_of_nodes : List MarkedNode → List Bool
+marks_of_nodes ms = map (λ m. m.plain) ms
 
 -- past the end stands no node, and it is plain
 abbrev pub no_node : MarkedNode
@@ -41,12 +41,12 @@ HasRoom count limit (Err f) = (limit ≤ count) × (offer_fault_number f ≡ 1) 
 abbrev pub NodeOffered : Book → RawNode → Result MarkedNode (OfferFault RawNode) → Type 0
 NodeOffered bk raw (Ok m) =
     (node_refusal bk raw ≡ 0) × (m.node ≡ node_of raw) × (m.plain ≡ plain (read (concepts bk.nodes) m.node))
-NodeOffered bk raw (Err f) = Refused nodes bk raw f
+NodeOffered bk raw (Err f) = OfferRefused nodes bk raw f
 
 abbrev pub EntryOffered : Book → RawEntry → Result Entry (OfferFault RawEntry) → Type 0
 EntryOffered bk raw (Ok e) = (entry_refusal bk raw ≡ 0) × (e ≡ entry_of raw)
-EntryOffered bk raw (Err f) = Refused entries bk raw f
+EntryOffered bk raw (Err f) = OfferRefused entries bk raw f
 
 abbrev pub MayStrike : Book → ℕ → Result (Unit {0}) StrikeFault → Type 0
-MayStrike bk i (Ok u) = (line_at bk i).live ≡ true
+MayStrike bk i (Ok u) = (stored_at bk i).live ≡ true
 MayStrike bk i (Err f) = StrikeRefused bk i f

@@ -1,10 +1,10 @@
 -- What the records of a journal mean.
 -- recorded, replay: the book after a record and after a list of records.
--- recorded_nodes: the nodes of the records. struck_count: how many lines are struck.
+-- recorded_nodes: the nodes of the records. struck_count: how many entries are struck.
 -- Assumes nothing.
 use Rattle.std.specs.Prelude.{ℕ, ◌+◌, cond, List, [], ◌∷◌, Option, Some, None}
 use Rattle.std.specs.List.{filter_map}
-use Rattle.logic.specs.declared.records.Line.{Line}
+use Rattle.logic.specs.declared.records.StoredEntry.{StoredEntry}
 use Rattle.logic.specs.Books.{Book, with_node, with_entry, with_strike}
 use Rattle.books.specs.declared.marked.MarkedNode.{MarkedNode}
 use Rattle.books.specs.declared.journal_record.Record.{Record}
@@ -31,7 +31,7 @@ node_in (records.Strike i) = None
 abbrev pub recorded_nodes : List Record → List MarkedNode
 recorded_nodes rs = filter_map node_in rs
 
--- how many of the lines are not live
-abbrev pub struck_count : List Line → ℕ
+-- how many of the entries are not live
+abbrev pub struck_count : List StoredEntry → ℕ
 struck_count [] = 0
 struck_count (l ∷ ls) = cond l.live 0 1 + struck_count ls

@@ -1,12 +1,12 @@
 // What a book is, to its readers and to those who write in it.
 ghost use Rattle.std.specs.Prelude.{◌≡◌, length, is_ok, IfOk, Decides};
-ghost use Rattle.logic.specs.Books.{Book, empty, node_at, line_at};
+ghost use Rattle.logic.specs.Books.{Book, empty, node_at, stored_at};
 ghost use Rattle.logic.specs.Lawful.{Lawful};
 ghost use Rattle.logic.specs.Refusals.{NodeFits, EntryFits};
 ghost use Rattle.books.specs.Answers.{nodes, entries, OfferAnswer, StrikeAnswer};
 
 use crate::faults::{EnterFault, NodeFault, StrikeFault};
-use logic::records::{Line, Node, RawEntry, RawNode};
+use logic::records::{Node, RawEntry, RawNode, StoredEntry};
 use std::alloc::{AllocError, Global};
 
 // A book to read. It means a list of nodes and a list of entries with live marks, both lawful. A
@@ -21,15 +21,15 @@ pub trait ReadableBook {
         ensures { result ≡ length (meaning self.now).nodes };
 
     fn entry_count(&self) -> u16
-        ensures { result ≡ length (meaning self.now).lines };
+        ensures { result ≡ length (meaning self.now).entries };
 
     // Node i, or Absent past the end.
     fn node_at(&self, i: u16) -> Node
         ensures { result ≡ node_at (meaning self.now) i };
 
     // Entry i with its live mark, or Absent and not live past the end.
-    fn entry_at(&self, i: u16) -> Line
-        ensures { result ≡ line_at (meaning self.now) i };
+    fn entry_at(&self, i: u16) -> StoredEntry
+        ensures { result ≡ stored_at (meaning self.now) i };
 }
 
 // A book that also takes nodes, entries and strikes. A call each for nodes and entries is asked for, and they

@@ -1,18 +1,18 @@
 // An editable book that only appends: a record of each node, each entry and each strike.
 ghost use Rattle.std.specs.Prelude.{◌≡◌, ◌+◌, ◌<◌, ◌≤◌, length, if◌then◌else◌, vec_len, vec_capacity, nat_eq, slice_index_or};
 ghost use Rattle.logic.specs.Concepts.{plain_marks};
-ghost use Rattle.logic.specs.Books.{Book, empty, line_at, struck};
+ghost use Rattle.logic.specs.Books.{Book, empty, stored_at, struck};
 ghost use Rattle.logic.specs.Lawful.{Lawful};
 ghost use Rattle.logic.proofs.Deciding.{lawful_known};
-ghost use Rattle.books.specs.Marks.{marks, no_node};
+ghost use Rattle.books.specs.Marks.{marks_of_nodes, no_node};
 ghost use Rattle.books.specs.Replay.{recorded, replay, recorded_nodes, struck_count};
 
 use crate::book::{EditableBook, ReadableBook};
+use crate::entries::taken;
 use crate::faults::{EnterFault, NodeFault, StrikeFault};
 use crate::journal_record::Record;
-use crate::lines::taken;
 use crate::marked::{MarkedBook, MarkedNode, NO_NODE, may_strike, offered_entry, offered_node};
-use logic::records::{Line, NO_LINE, Node, RawEntry, RawNode};
+use logic::records::{NO_STORED_ENTRY, Node, RawEntry, RawNode, StoredEntry};
 use std::alloc::{AllocError, Global};
 
 const RECORDS: usize = 1024;
@@ -27,11 +27,11 @@ pub struct Journal {
     entries: u16,
     ghost room: { 1024 ≤ vec_capacity records },
     ghost counted_nodes: { nodes ≡ length (replay empty records.items).nodes },
-    ghost counted_entries: { entries ≡ length (replay empty records.items).lines },
-    ghost counted: { vec_len records ≡ nodes + entries + struck_count (replay empty records.items).lines },
+    ghost counted_entries: { entries ≡ length (replay empty records.items).entries },
+    ghost counted: { vec_len records ≡ nodes + entries + struck_count (replay empty records.items).entries },
     ghost few_nodes: { nodes ≤ 512 },
     ghost few_entries: { entries ≤ 256 },
-    ghost marked: { marks (recorded_nodes records.items) ≡ plain_marks (replay empty records.items).nodes },
+    ghost marked: { marks_of_nodes (recorded_nodes records.items) ≡ plain_marks (replay empty records.items).nodes },
     ghost lawful: { ∥ Lawful (replay empty records.items) ∥₁ },
 }
 
@@ -46,44 +46,44 @@ fn node_record(records: &[Record], i: u16) -> MarkedNode
         .unwrap_or(NO_NODE)
 }
 
-// Line i after entry j is struck.
-fn after_strike(line: Line, j: u16, i: u16) -> Line
-    ensures { result ≡ (if nat_eq j i then struck line else line) }
+// Entry i after entry j is struck.
+fn after_strike(stored: StoredEntry, j: u16, i: u16) -> StoredEntry
+    ensures { result ≡ (if nat_eq j i then struck stored else stored) }
 {
-    Line {
-        live: line.live && j != i,
-        ..line
+    StoredEntry {
+        live: stored.live && j != i,
+        ..stored
     }
 }
 
-// Line i and the count of lines, after one record more.
-fn read_on(line: Line, seen: u16, record: Record, i: u16) -> (Line, u16)
+// Entry i and the count of entries, after one record more.
+fn after_record(stored: StoredEntry, seen: u16, record: Record, i: u16) -> (StoredEntry, u16)
     requires { seen < 1024 }
-    ensures reads { (bk : Book) → line ≡ line_at bk i → seen ≡ length bk.lines → (result.0 ≡ line_at (recorded bk «record») i) × (result.1 ≡ length (recorded bk «record»).lines) }
+    ensures reads { (bk : Book) → stored ≡ stored_at bk i → seen ≡ length bk.entries → (result.0 ≡ stored_at (recorded bk «record») i) × (result.1 ≡ length (recorded bk «record»).entries) }
     ensures few { result.1 ≤ seen + 1 }
 {
     match record {
-        Record::Node(_) => (line, seen),
+        Record::Node(_) => (stored, seen),
         Record::Entry(entry) => {
-            let read = if seen == i { taken(entry) } else { line };
+            let read = if seen == i { taken(entry) } else { stored };
             (read, seen + 1)
         }
-        Record::Strike(j) => (after_strike(line, j, i), seen),
+        Record::Strike(j) => (after_strike(stored, j, i), seen),
     }
 }
 
-// Line i of the records.
-fn line_at(records: &[Record], i: u16) -> Line
+// Entry i of the records.
+fn stored_at(records: &[Record], i: u16) -> StoredEntry
     requires { length records.now ≤ 1024 }
-    ensures { result ≡ line_at (replay empty records.now) i }
+    ensures { result ≡ stored_at (replay empty records.now) i }
 {
     // a loop, since a fold's closure would not know that `seen` stays small
-    let mut line = NO_LINE;
+    let mut stored = NO_STORED_ENTRY;
     let mut seen = 0;
     for record in records {
-        (line, seen) = read_on(line, seen, *record, i);
+        (stored, seen) = after_record(stored, seen, *record, i);
     }
-    line
+    stored
 }
 
 impl ReadableBook for Journal {
@@ -103,8 +103,8 @@ impl ReadableBook for Journal {
         node_record(&self.records, i).node
     }
 
-    fn entry_at(&self, i: u16) -> Line {
-        line_at(&self.records, i)
+    fn entry_at(&self, i: u16) -> StoredEntry {
+        stored_at(&self.records, i)
     }
 }
 

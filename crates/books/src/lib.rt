@@ -3,10 +3,10 @@
 #![tactic(auto)]
 
 pub mod book;
+mod entries;
 pub mod faults;
 pub mod journal;
 mod journal_record;
-mod lines;
 mod lists;
 mod marked;
 pub mod offers;

@@ -2,12 +2,12 @@
 ghost use Rattle.std.specs.Prelude.{◌≡◌};
 ghost use Rattle.logic.specs.Concepts.{concepts, plain, is_typical};
 ghost use Rattle.logic.specs.Books.{concept};
-ghost use Rattle.books.specs.Answers.{Tells};
+ghost use Rattle.books.specs.Answers.{IsPlainnessOf};
 ghost use Rattle.books.specs.Marks.{HasRoom, NodeOffered, EntryOffered, MayStrike};
 
 use crate::book::ReadableBook;
 use crate::faults::{EnterFault, NodeFault, OfferFault, Reason, StrikeFault};
-use crate::offers::{Sides, judge_entry, judge_node, plain_node, typical_node};
+use crate::offers::{PlainOperands, judge_entry, judge_node, plain_node, typical_node};
 use logic::records::{Entry, Node, RawEntry, RawNode};
 
 // How many nodes a book has at most, and how many entries.
@@ -45,10 +45,10 @@ fn room<R>(count: u16, limit: u16) -> Result<(), OfferFault<R>>
 }
 
 // Whether the nodes a and b are plain.
-fn sides<B: MarkedBook>(book: &B, a: u16, b: u16) -> Sides
-    ensures { Tells (concepts (B.ReadableBook.meaning book.now).nodes) a b result }
+fn plain_operands<B: MarkedBook>(book: &B, a: u16, b: u16) -> PlainOperands
+    ensures { IsPlainnessOf (concepts (B.ReadableBook.meaning book.now).nodes) a b result }
 {
-    Sides {
+    PlainOperands {
         plain_a: book.plain_at(a),
         plain_b: book.plain_at(b),
     }
@@ -67,12 +67,12 @@ pub(crate) fn offered_node<B: MarkedBook>(book: &B, raw: RawNode) -> Result<Mark
 {
     let count = book.node_count();
     room(count, NODES)?;
-    let sides = sides(book, raw.a, raw.b);
-    let node = judge_node(count, sides, raw).map_err(|unfit| OfferFault::new(
+    let plain_operands = plain_operands(book, raw.a, raw.b);
+    let node = judge_node(count, plain_operands, raw).map_err(|unfit| OfferFault::new(
         Reason::Unfit(unfit),
         count,
     ))?;
-    let plain = plain_node(node, sides);
+    let plain = plain_node(node, plain_operands);
     Ok(MarkedNode { node, plain })
 }
 
@@ -82,10 +82,14 @@ pub(crate) fn offered_entry<B: MarkedBook>(book: &B, raw: RawEntry) -> Result<En
 {
     let count = book.entry_count();
     room(count, ENTRIES)?;
-    let sides = sides(book, raw.a, raw.b);
-    judge_entry(book.node_count(), typical_at(book, raw.a), sides, raw).map_err(
-        |unfit| OfferFault::new(Reason::Unfit(unfit), count),
+    let plain_operands = plain_operands(book, raw.a, raw.b);
+    judge_entry(
+        book.node_count(),
+        typical_at(book, raw.a),
+        plain_operands,
+        raw,
     )
+    .map_err(|unfit| OfferFault::new(Reason::Unfit(unfit), count))
 }
 
 // Whether entry i can be struck, or why not.

@@ -4,16 +4,16 @@ ghost use Rattle.std.specs.Prelude.{◌≡◌, List, length};
 ghost use Rattle.logic.specs.Written.{node_of, node_a, node_b, entry_of, entry_a, entry_b};
 ghost use Rattle.logic.specs.Concepts.{Concept, concepts, of, read, plain, is_typical};
 ghost use Rattle.logic.specs.Books.{Book, concept};
-ghost use Rattle.logic.specs.Lawful.{node_within_limits, node_operands_below, node_placed, entry_within_limits, entry_operands_below, entry_placed};
+ghost use Rattle.logic.specs.Lawful.{node_within_limits, node_operands_below, node_typicality_allowed, entry_within_limits, entry_operands_below, entry_typicality_allowed};
 ghost use Rattle.logic.specs.Refusals.{node_unfit, node_unused_zero, entry_unfit, entry_unused_zero};
-ghost use Rattle.books.specs.Answers.{Judged, Tells, FirstUnfit};
+ghost use Rattle.books.specs.Answers.{Judged, IsPlainnessOf, FirstUnfit};
 
 use crate::faults::Unfit;
 use logic::records::{Entry, Node, RawEntry, RawNode};
 
 // What a book tells of the nodes a and b of an offered record: whether they are plain.
 #[derive(Clone, Copy)]
-pub struct Sides {
+pub struct PlainOperands {
     pub plain_a: bool,
     pub plain_b: bool,
 }
@@ -68,10 +68,10 @@ fn node_operands_below(count: u16, node: Node) -> bool
 }
 
 // Whether typicality is in place in a node.
-fn node_placed(node: Node, sides: Sides) -> bool
-    ensures { (cs : List Concept) → Tells cs (node_a node) (node_b node) sides → result ≡ node_placed cs node }
+fn node_typicality_allowed(node: Node, plain_operands: PlainOperands) -> bool
+    ensures { (cs : List Concept) → IsPlainnessOf cs (node_a node) (node_b node) plain_operands → result ≡ node_typicality_allowed cs node }
 {
-    let Sides { plain_a, plain_b } = sides;
+    let PlainOperands { plain_a, plain_b } = plain_operands;
     match node {
         Node::All(_, _) | Node::Exists(_, _) => plain_b,
         Node::Typical(_) => plain_a,
@@ -80,13 +80,13 @@ fn node_placed(node: Node, sides: Sides) -> bool
 }
 
 // Whether a node is plain.
-pub fn plain_node(node: Node, sides: Sides) -> bool
-    ensures { (cs : List Concept) → Tells cs (node_a node) (node_b node) sides → result ≡ plain (read cs node) }
+pub fn plain_node(node: Node, plain_operands: PlainOperands) -> bool
+    ensures { (cs : List Concept) → IsPlainnessOf cs (node_a node) (node_b node) plain_operands → result ≡ plain (read cs node) }
 {
     match node {
-        Node::Not(_) => sides.plain_a,
-        Node::And(_, _) | Node::Or(_, _) => sides.plain_a && sides.plain_b,
-        Node::All(_, _) | Node::Exists(_, _) => sides.plain_b,
+        Node::Not(_) => plain_operands.plain_a,
+        Node::And(_, _) | Node::Or(_, _) => plain_operands.plain_a && plain_operands.plain_b,
+        Node::All(_, _) | Node::Exists(_, _) => plain_operands.plain_b,
         Node::Typical(_) => false,
         Node::Top | Node::Bottom | Node::Name(_) | Node::Absent => true,
     }
@@ -100,15 +100,15 @@ pub fn typical_node(node: Node) -> bool
 }
 
 // The node that is offered, or why it does not fit a book of `count` nodes.
-pub fn judge_node(count: u16, sides: Sides, raw: RawNode) -> Result<Node, Unfit>
-    ensures { (bk : Book) → length bk.nodes ≡ count → Tells (concepts bk.nodes) raw.a raw.b sides → Judged (node_unfit bk raw) (node_of raw) result }
+pub fn judge_node(count: u16, plain_operands: PlainOperands, raw: RawNode) -> Result<Node, Unfit>
+    ensures { (bk : Book) → length bk.nodes ≡ count → IsPlainnessOf (concepts bk.nodes) raw.a raw.b plain_operands → Judged (node_unfit bk raw) (node_of raw) result }
 {
     let node = Node::from(raw);
     first_unfit(
         !matches!(node, Node::Absent),
         node_within_limits(node) && node_unused_zero(raw),
         node_operands_below(count, node),
-        node_placed(node, sides),
+        node_typicality_allowed(node, plain_operands),
     )?;
     Ok(node)
 }
@@ -142,25 +142,30 @@ fn entry_operands_below(count: u16, entry: Entry) -> bool
 }
 
 // Whether typicality is in place in an entry, given whether its node a is typicality of something.
-fn entry_placed(entry: Entry, typical_a: bool, sides: Sides) -> bool
-    ensures { (cs : List Concept) → is_typical (of cs (entry_a entry)) ≡ typical_a → Tells cs (entry_a entry) (entry_b entry) sides → result ≡ entry_placed cs entry }
+fn entry_typicality_allowed(entry: Entry, typical_a: bool, plain_operands: PlainOperands) -> bool
+    ensures { (cs : List Concept) → is_typical (of cs (entry_a entry)) ≡ typical_a → IsPlainnessOf cs (entry_a entry) (entry_b entry) plain_operands → result ≡ entry_typicality_allowed cs entry }
 {
     match entry {
-        Entry::Inclusion(_, _) => (typical_a || sides.plain_a) && sides.plain_b,
+        Entry::Inclusion(_, _) => (typical_a || plain_operands.plain_a) && plain_operands.plain_b,
         Entry::Fact(_, _) | Entry::RoleFact(_, _, _) | Entry::Absent => true,
     }
 }
 
 // The entry that is offered, or why it does not fit a book of `count` nodes.
-pub fn judge_entry(count: u16, typical_a: bool, sides: Sides, raw: RawEntry) -> Result<Entry, Unfit>
-    ensures { (bk : Book) → length bk.nodes ≡ count → is_typical (concept bk raw.a) ≡ typical_a → Tells (concepts bk.nodes) raw.a raw.b sides → Judged (entry_unfit bk raw) (entry_of raw) result }
+pub fn judge_entry(
+    count: u16,
+    typical_a: bool,
+    plain_operands: PlainOperands,
+    raw: RawEntry,
+) -> Result<Entry, Unfit>
+    ensures { (bk : Book) → length bk.nodes ≡ count → is_typical (concept bk raw.a) ≡ typical_a → IsPlainnessOf (concepts bk.nodes) raw.a raw.b plain_operands → Judged (entry_unfit bk raw) (entry_of raw) result }
 {
     let entry = Entry::from(raw);
     first_unfit(
         !matches!(entry, Entry::Absent),
         entry_within_limits(entry) && entry_unused_zero(raw),
         entry_operands_below(count, entry),
-        entry_placed(entry, typical_a, sides),
+        entry_typicality_allowed(entry, typical_a, plain_operands),
     )?;
     Ok(entry)
 }

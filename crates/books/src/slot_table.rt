@@ -2,34 +2,34 @@
 ghost use Rattle.std.specs.Prelude.{◌≡◌, ◌≤◌, vec_len, vec_capacity};
 ghost use Rattle.logic.specs.Concepts.{plain_marks};
 ghost use Rattle.logic.specs.Lawful.{Lawful};
-ghost use Rattle.books.specs.Marks.{bare, marks};
+ghost use Rattle.books.specs.Marks.{nodes_of, marks_of_nodes};
 ghost use Rattle.logic.proofs.Deciding.{lawful_known};
 
 use crate::book::{EditableBook, ReadableBook};
+use crate::entries::{strike_entry, taken};
 use crate::faults::{EnterFault, NodeFault, StrikeFault};
-use crate::lines::{strike_line, taken};
 use crate::lists::item_or;
 use crate::marked::{
     ENTRIES, MarkedBook, MarkedNode, NO_NODE, NODES, may_strike, offered_entry, offered_node,
 };
-use logic::records::{Line, NO_LINE, Node, RawEntry, RawNode};
+use logic::records::{NO_STORED_ENTRY, Node, RawEntry, RawNode, StoredEntry};
 use std::alloc::{AllocError, Global};
 
 // The memory of all records is reserved when the table is made.
 #[derive(Drop)]
 pub struct SlotTable {
     nodes: Vec<MarkedNode>,
-    lines: Vec<Line>,
+    entries: Vec<StoredEntry>,
     ghost node_room: { 512 ≤ vec_capacity nodes },
-    ghost line_room: { 256 ≤ vec_capacity lines },
+    ghost entry_room: { 256 ≤ vec_capacity entries },
     ghost few_nodes: { vec_len nodes ≤ 512 },
-    ghost few_lines: { vec_len lines ≤ 256 },
-    ghost marked: { marks nodes.items ≡ plain_marks (bare nodes.items) },
-    ghost lawful: { ∥ Lawful (record { nodes = bare nodes.items; lines = lines.items }) ∥₁ },
+    ghost few_entries: { vec_len entries ≤ 256 },
+    ghost marked: { marks_of_nodes nodes.items ≡ plain_marks (nodes_of nodes.items) },
+    ghost lawful: { ∥ Lawful (record { nodes = nodes_of nodes.items; entries = entries.items }) ∥₁ },
 }
 
 impl ReadableBook for SlotTable {
-    ghost meaning = { λ t. record { nodes = bare t.nodes.items; lines = t.lines.items } };
+    ghost meaning = { λ t. record { nodes = nodes_of t.nodes.items; entries = t.entries.items } };
 
     ghost lawful = { λ t. lawful_known _ t.lawful };
 
@@ -38,15 +38,15 @@ impl ReadableBook for SlotTable {
     }
 
     fn entry_count(&self) -> u16 {
-        self.lines.len() as u16
+        self.entries.len() as u16
     }
 
     fn node_at(&self, i: u16) -> Node {
         item_or(&self.nodes, i, NO_NODE).node
     }
 
-    fn entry_at(&self, i: u16) -> Line {
-        item_or(&self.lines, i, NO_LINE)
+    fn entry_at(&self, i: u16) -> StoredEntry {
+        item_or(&self.entries, i, NO_STORED_ENTRY)
     }
 }
 
@@ -59,8 +59,8 @@ impl MarkedBook for SlotTable {
 impl EditableBook for SlotTable {
     fn new(heap: Global) -> Result<SlotTable, AllocError> {
         let nodes = Vec::with_capacity(heap, NODES as usize)?;
-        let lines = Vec::with_capacity(heap, ENTRIES as usize)?;
-        Ok(SlotTable { nodes, lines })
+        let entries = Vec::with_capacity(heap, ENTRIES as usize)?;
+        Ok(SlotTable { nodes, entries })
     }
 
     fn node(&mut self, raw: RawNode) -> Result<u16, NodeFault> {
@@ -73,13 +73,13 @@ impl EditableBook for SlotTable {
     fn enter(&mut self, raw: RawEntry) -> Result<u16, EnterFault> {
         let count = self.entry_count();
         let entry = offered_entry(self, raw)?;
-        self.lines.push_reserved(taken(entry));
+        self.entries.push_reserved(taken(entry));
         Ok(count)
     }
 
     fn strike(&mut self, i: u16) -> Result<(), StrikeFault> {
         may_strike(self, i)?;
-        strike_line(&mut self.lines, i);
+        strike_entry(&mut self.entries, i);
         Ok(())
     }
 }

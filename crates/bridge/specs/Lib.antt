@@ -1,2 +1,2 @@
 -- what a caller's buffer holds
-pub mod Told
+pub mod Buffers

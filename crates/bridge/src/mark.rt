@@ -1,15 +1,15 @@
 // The two calls of the marker.
 ghost use Rattle.verdict.specs.declared.Verdict.{Verdict};
-ghost use Rattle.verdict.specs.Marks.{whole, TableauMark, ModelMark};
-ghost use Rattle.bridge.specs.Told.{Told};
+ghost use Rattle.verdict.specs.Marks.{marked_part, TableauMark, ModelMark};
+ghost use Rattle.bridge.specs.Buffers.{LineWritten};
 
 use verdict::Verdict;
 use verdict::line::line;
 use verdict::mark::{mark_model, mark_tableau};
 
 // Writes the line of a verdict into a buffer and answers its length, or 0 where the buffer is too short.
-fn tell(verdict: Verdict, out: &mut [u8]) -> usize
-    ensures { Told verdict out.old out.new result }
+fn write_verdict(verdict: Verdict, out: &mut [u8]) -> usize
+    ensures { LineWritten verdict out.old out.new result }
 {
     line(verdict, out).unwrap_or(0)
 }
@@ -17,9 +17,9 @@ fn tell(verdict: Verdict, out: &mut [u8]) -> usize
 // Marks a tableau against a sealed book, and writes the line of the verdict.
 #[unsafe(no_mangle)]
 pub extern "C" fn vuhlaten_mark_tableau(book: &[u8], steps: &[u8], out: &mut [u8]) -> usize
-    ensures { (v : Verdict) × TableauMark (whole book.now) (whole steps.now) v × Told v out.old out.new result }
+    ensures { (v : Verdict) × TableauMark (marked_part book.now) (marked_part steps.now) v × LineWritten v out.old out.new result }
 {
-    tell(mark_tableau(book, steps), out)
+    write_verdict(mark_tableau(book, steps), out)
 }
 
 // Marks a model, with its "better" in pairs, against a sealed book, and writes the line of the verdict.
@@ -30,7 +30,7 @@ pub extern "C" fn vuhlaten_mark_model(
     pairs: &[u8],
     out: &mut [u8],
 ) -> usize
-    ensures { (v : Verdict) × ModelMark (whole book.now) (whole model.now) (whole pairs.now) v × Told v out.old out.new result }
+    ensures { (v : Verdict) × ModelMark (marked_part book.now) (marked_part model.now) (marked_part pairs.now) v × LineWritten v out.old out.new result }
 {
-    tell(mark_model(book, model, pairs), out)
+    write_verdict(mark_model(book, model, pairs), out)
 }

@@ -7,8 +7,8 @@ use Rattle.std.proofs.lemmas.Bool.{cases_lt, and_parts, ltb-true, false≢true}
 use Rattle.logic.specs.declared.records.Node.{Node}
 use Rattle.logic.specs.declared.records.Entry.{Entry}
 use Rattle.logic.specs.declared.records.Entry.TheVariants.{Inclusion, Fact, RoleFact, Absent}
-use Rattle.logic.specs.declared.records.Line.{Line}
-use Rattle.logic.specs.Books.{Book, concept, line_at, no_line, with_node, with_entry, with_strike, struck}
+use Rattle.logic.specs.declared.records.StoredEntry.{StoredEntry}
+use Rattle.logic.specs.Books.{Book, concept, stored_at, no_stored_entry, with_node, with_entry, with_strike, struck}
 use Rattle.logic.specs.Lawful.{Lawful, entry_well_formed, entry_operands_below}
 use Rattle.logic.specs.Models.{Model, Sat}
 use Rattle.logic.specs.Satisfaction.{Live, HoldsIn, Satisfies}
@@ -17,28 +17,28 @@ use Rattle.logic.proofs.Reading.{concepts_stay}
 
 -- the entry at place i is there
 abbrev pub live_at : Book → ℕ → Bool
-live_at bk i = (line_at bk i).live
+live_at bk i = (stored_at bk i).live
 
 abbrev pub entry_at : Book → ℕ → Entry
-entry_at bk i = (line_at bk i).entry
+entry_at bk i = (stored_at bk i).entry
 
 -- a live entry, by its place
-pub live_line : (bk : Book) (i : ℕ) → live_at bk i ≡ true → Live bk i (entry_at bk i)
-live_line bk i h = λ t. record { entry = entry_at bk i; live = h t }
+pub live_entry : (bk : Book) (i : ℕ) → live_at bk i ≡ true → Live bk i (entry_at bk i)
+live_entry bk i h = λ t. record { entry = entry_at bk i; live = h t }
 
-pub live_there : (bk : Book) (i : ℕ) → live_at bk i ≡ true → i < length bk.lines
-live_there bk i h = elim (cases_lt i (length bk.lines)) [
+pub live_there : (bk : Book) (i : ℕ) → live_at bk i ≡ true → i < length bk.entries
+live_there bk i h = elim (cases_lt i (length bk.entries)) [
   | inl l ↦ l
-  | inr l ↦ absurd (false≢true (sym (ap (λ (k : Line). k.live) (get_or_past bk.lines i no_line l)) ∙ h))
+  | inr l ↦ absurd (false≢true (sym (ap (λ (k : StoredEntry). k.live) (get_or_past bk.entries i no_stored_entry l)) ∙ h))
 ]
 
 -- a model satisfies a book where every live entry, by its place, is true
 pub satisfies_at : (m : Model) (bk : Book) → ((i : ℕ) → live_at bk i ≡ true → HoldsIn m bk (entry_at bk i)) → Satisfies m bk
 satisfies_at m bk h i e live =
-    subst (HoldsIn m bk) (ap (λ (k : Line). k.entry) live) (h i (ap (λ (k : Line). k.live) live))
+    subst (HoldsIn m bk) (ap (λ (k : StoredEntry). k.entry) live) (h i (ap (λ (k : StoredEntry). k.live) live))
 
 pub holds_at : (m : Model) (bk : Book) → Satisfies m bk → (i : ℕ) → live_at bk i ≡ true → HoldsIn m bk (entry_at bk i)
-holds_at m bk s i h = s i (entry_at bk i) (live_line bk i h)
+holds_at m bk s i h = s i (entry_at bk i) (live_entry bk i h)
 
 -- two books that read the concepts of an entry's nodes alike agree on whether it is true
 holds_alike : (m : Model) (bk ck : Book) (n : ℕ) → ((c : ℕ) → c < n → concept ck c ≡ concept bk c) → (e : Entry) → entry_operands_below n e ≡ true → HoldsIn m bk e → HoldsIn m ck e
@@ -52,7 +52,7 @@ holds_alike m bk ck n alike Absent b h = h
 operands_there : (bk : Book) → Lawful bk → (i : ℕ) → live_at bk i ≡ true → entry_operands_below (length bk.nodes) (entry_at bk i) ≡ true
 operands_there bk lawful i h =
     (entry_parts (length bk.nodes) (entry_at bk i)
-    (All-get_or (λ l. entry_well_formed (length bk.nodes) l.entry ≡ true) bk.lines i no_line (live_there bk i h) lawful.well_formed.entries)).2
+    (All-get_or (λ l. entry_well_formed (length bk.nodes) l.entry ≡ true) bk.entries i no_stored_entry (live_there bk i h) lawful.well_formed.entries)).2
 
 -- one node more leaves whether a live entry is true
 pub node_holds : (m : Model) (bk : Book) (n : Node) → Lawful bk → (i : ℕ) → live_at bk i ≡ true → HoldsIn m bk (entry_at bk i) → HoldsIn m (with_node bk n) (entry_at bk i)
@@ -63,21 +63,21 @@ pub node_held : (m : Model) (bk : Book) (n : Node) → Lawful bk → (i : ℕ) �
 node_held m bk n lawful i h =
     holds_alike m (with_node bk n) bk (length bk.nodes) (λ c l. sym (concepts_stay bk.nodes (n ∷ []) c l)) (entry_at bk i) (operands_there bk lawful i h)
 
--- one entry more leaves the lines before it
-pub enter_before : (bk : Book) (e : Entry) (i : ℕ) → i < length bk.lines → line_at (with_entry bk e) i ≡ line_at bk i
-enter_before bk e i h = get_or_append_left bk.lines _ no_line i h
+-- one entry more leaves the entries before it
+pub enter_before : (bk : Book) (e : Entry) (i : ℕ) → i < length bk.entries → stored_at (with_entry bk e) i ≡ stored_at bk i
+enter_before bk e i h = get_or_append_left bk.entries _ no_stored_entry i h
 
-pub enter_here : (bk : Book) (e : Entry) (i : ℕ) → length bk.lines ≡ i → live_at (with_entry bk e) i ≡ true
-enter_here bk e i h = ap (λ (k : Line). k.live) (get_or_push bk.lines (record { entry = e; live = true }) no_line i h)
+pub enter_here : (bk : Book) (e : Entry) (i : ℕ) → length bk.entries ≡ i → live_at (with_entry bk e) i ≡ true
+enter_here bk e i h = ap (λ (k : StoredEntry). k.live) (get_or_push bk.entries (record { entry = e; live = true }) no_stored_entry i h)
 
--- a strike leaves the other lines, and the entry of its own
-pub strike_other : (bk : Book) (j i : ℕ) → (i ≡ j → ⊥) → line_at (with_strike bk j) i ≡ line_at bk i
-strike_other bk j i ne = get_or-set_other bk.lines j i (struck (line_at bk j)) no_line ne
+-- a strike leaves the other entries, and the entry of its own
+pub strike_other : (bk : Book) (j i : ℕ) → (i ≡ j → ⊥) → stored_at (with_strike bk j) i ≡ stored_at bk i
+strike_other bk j i ne = get_or-set_other bk.entries j i (struck (stored_at bk j)) no_stored_entry ne
 
 pub strike_here : (bk : Book) (j : ℕ) → live_at (with_strike bk j) j ≡ false
-strike_here bk j = elim (cases_lt j (length bk.lines)) [
-  | inl l ↦ ap (λ (k : Line). k.live) (get_or-set_same bk.lines j (struck (line_at bk j)) no_line l)
-  | inr l ↦ ap (λ (k : Line). k.live) (get_or_past (with_strike bk j).lines j no_line (omega (arith, length-set bk.lines j (struck (line_at bk j)))))
+strike_here bk j = elim (cases_lt j (length bk.entries)) [
+  | inl l ↦ ap (λ (k : StoredEntry). k.live) (get_or-set_same bk.entries j (struck (stored_at bk j)) no_stored_entry l)
+  | inr l ↦ ap (λ (k : StoredEntry). k.live) (get_or_past (with_strike bk j).entries j no_stored_entry (omega (arith, length-set bk.entries j (struck (stored_at bk j)))))
 ]
 
 -- so what is live after it is another entry

@@ -1,14 +1,14 @@
 -- What every run keeps. Assumes nothing.
 use Rattle.std.proofs.Common.{◌≡◌, ℕ, Bool, List, [], ◌∷◌, ◌++◌, Ok, Err, sym, refl, ap, ◌∙◌, subst}
-use Rattle.logic.specs.declared.records.Line.{Line}
+use Rattle.logic.specs.declared.records.StoredEntry.{StoredEntry}
 use Rattle.logic.specs.declared.tableau.Step.{Step}
 use Rattle.logic.specs.Written.{node_of, entry_of}
 use Rattle.logic.specs.Books.{Book}
 use Rattle.logic.specs.Limits.{Lengths}
 use Rattle.logic.specs.Tableaux.{names}
 use Rattle.logic.proofs.NamedLive.{named_live}
-use Rattle.models.specs.Interpretations.{said}
-use Rattle.models.specs.Meanings.{meant}
+use Rattle.models.specs.Interpretations.{interpretation_of}
+use Rattle.models.specs.Meanings.{model_of}
 use Rattle.judge.specs.declared.used.Used.{Used}
 use Rattle.judge.specs.Members.{member}
 use Rattle.judge.specs.Refutations.{RefuteAnswer}
@@ -29,7 +29,7 @@ refutation_core bk ls bs u a =
     let shown = a.accepted u refl in
     let r = shown.refutation in
     record {
-      live = λ i m. ap (λ (l : Line). l.live) (named_live bk r.tableau i (ap (λ (ss : List Step). names ss i) r.written ∙ sym (shown.named i) ∙ m)).1;
+      live = λ i m. ap (λ (l : StoredEntry). l.live) (named_live bk r.tableau i (ap (λ (ss : List Step). names ss i) r.written ∙ sym (shown.named i) ∙ m)).1;
       none = λ m h. shown.sound m (λ i n. h i (shown.named i ∙ n));
     }
 
@@ -88,7 +88,7 @@ kept_move (show bs o list (Ok n)) h s t k (shown, same, next, used) =
     let a = shown.answer in
     record {
       book = quiet (show bs o list (Ok n)) h _ _ (λ z. z) (λ i z. z) refl refl same k.book;
-      standing = stay _ _ _ _ _ _ same refl used (standing_show s.book s.standing t.standing s.used (meant (said bs) o a.0.1) (a.3 a.0.1).0 next k.standing);
+      standing = stay _ _ _ _ _ _ same refl used (standing_show s.book s.standing t.standing s.used (model_of (interpretation_of bs) o a.0.1) (a.3 a.0.1).0 next k.standing);
       used = same_used s t (last_steps h) used k.used;
     }
 kept_move (show bs o list (Err f)) h s t k (e, is, why, same, kept) = record {

@@ -5,9 +5,9 @@ use Rattle.std.proofs.lemmas.Bool.{cases_lt, false≢true}
 use Rattle.std.proofs.lemmas.Bool.Decides.{Decides-like}
 use Rattle.logic.specs.declared.records.RawNode.{RawNode}
 use Rattle.logic.specs.declared.records.RawEntry.{RawEntry}
-use Rattle.logic.specs.declared.records.Line.{Line}
+use Rattle.logic.specs.declared.records.StoredEntry.{StoredEntry}
 use Rattle.logic.specs.Written.{node_of, entry_of}
-use Rattle.logic.specs.Books.{Book, empty, no_line, with_node, with_entry, with_strike, struck}
+use Rattle.logic.specs.Books.{Book, empty, no_stored_entry, with_node, with_entry, with_strike, struck}
 use Rattle.logic.specs.Lawful.{Lawful}
 use Rattle.logic.specs.Refusals.{node_refusal, entry_refusal}
 use Rattle.logic.proofs.Lawfulness.{lawful_empty, lawful_with_strike}
@@ -19,7 +19,7 @@ use Rattle.docket.proofs.Changes.{live_at, live_there, enter_before, enter_here,
 pub record BookKept (h : List Event) (bk : Book) : Type 0 where
   pub lawful : Lawful bk
   pub nodes : bk.nodes ≡ granted_nodes h
-  pub entries : map (λ (l : Line). l.entry) bk.lines ≡ granted_entries h
+  pub entries : map (λ (l : StoredEntry). l.entry) bk.entries ≡ granted_entries h
   pub live : (i : ℕ) → Decides (live_at bk i) (Stands i h)
 
 -- an entry stands since the newest call took it, or since an earlier one and the newest did not remove it
@@ -57,33 +57,33 @@ book_node raw n h bk granted b = record {
 }
 
 -- one entry more: it is live, and so are those that were
-enter_stands : (raw : RawEntry) (n : ℕ) (h : List Event) (bk : Book) → n ≡ length bk.lines → ((i : ℕ) → Decides (live_at bk i) (Stands i h)) → (i : ℕ) → live_at (with_entry bk (entry_of raw)) i ≡ true → Stands i (enter raw (Ok n) ∷ h)
-enter_stands raw n h bk number live i l = elim (cases_lt i (length bk.lines)) [
-  | inl before ↦ since (λ z. z) ((live i).0 (sym (ap (λ (k : Line). k.live) (enter_before bk (entry_of raw) i before)) ∙ l))
+enter_stands : (raw : RawEntry) (n : ℕ) (h : List Event) (bk : Book) → n ≡ length bk.entries → ((i : ℕ) → Decides (live_at bk i) (Stands i h)) → (i : ℕ) → live_at (with_entry bk (entry_of raw)) i ≡ true → Stands i (enter raw (Ok n) ∷ h)
+enter_stands raw n h bk number live i l = elim (cases_lt i (length bk.entries)) [
+  | inl before ↦ since (λ z. z) ((live i).0 (sym (ap (λ (k : StoredEntry). k.live) (enter_before bk (entry_of raw) i before)) ∙ l))
   | inr past ↦
       (let there = live_there (with_entry bk (entry_of raw)) i l in
-      let e : n ≡ i = omega (arith, there, length_push bk.lines (record { entry = entry_of raw; live = true })) in
+      let e : n ≡ i = omega (arith, there, length_push bk.entries (record { entry = entry_of raw; live = true })) in
       subst (λ k. Stands k (enter raw (Ok n) ∷ h)) e took)
 ]
 
-enter_live : (raw : RawEntry) (n : ℕ) (h : List Event) (bk : Book) → n ≡ length bk.lines → ((i : ℕ) → Decides (live_at bk i) (Stands i h)) → (i : ℕ) → Stands i (enter raw (Ok n) ∷ h) → live_at (with_entry bk (entry_of raw)) i ≡ true
+enter_live : (raw : RawEntry) (n : ℕ) (h : List Event) (bk : Book) → n ≡ length bk.entries → ((i : ℕ) → Decides (live_at bk i) (Stands i h)) → (i : ℕ) → Stands i (enter raw (Ok n) ∷ h) → live_at (with_entry bk (entry_of raw)) i ≡ true
 enter_live raw n h bk number live i s = elim (split (enter raw (Ok n)) h i s) [
   | inl p ↦ enter_here bk (entry_of raw) i (cc p.1)
   | inr p ↦
       (let l = (live i).1 p.1 in
-      ap (λ (k : Line). k.live) (enter_before bk (entry_of raw) i (live_there bk i l)) ∙ l)
+      ap (λ (k : StoredEntry). k.live) (enter_before bk (entry_of raw) i (live_there bk i l)) ∙ l)
 ]
 
-pub book_enter : (raw : RawEntry) (n : ℕ) (h : List Event) (bk : Book) → entry_refusal bk raw ≡ 0 → n ≡ length bk.lines → BookKept h bk → BookKept (enter raw (Ok n) ∷ h) (with_entry bk (entry_of raw))
+pub book_enter : (raw : RawEntry) (n : ℕ) (h : List Event) (bk : Book) → entry_refusal bk raw ≡ 0 → n ≡ length bk.entries → BookKept h bk → BookKept (enter raw (Ok n) ∷ h) (with_entry bk (entry_of raw))
 book_enter raw n h bk granted number b = record {
   lawful = (entry_granted bk raw granted).1 b.lawful;
   nodes = b.nodes;
-  entries = map-append (λ (l : Line). l.entry) bk.lines _ ∙ ap (λ es. es ++ entry_of raw ∷ []) b.entries;
+  entries = map-append (λ (l : StoredEntry). l.entry) bk.entries _ ∙ ap (λ es. es ++ entry_of raw ∷ []) b.entries;
   live = λ i. (enter_stands raw n h bk number b.live i, enter_live raw n h bk number b.live i);
 }
 
 -- a strike leaves the entries
-strike_entries : (ls : List Line) (j : ℕ) → map (λ (l : Line). l.entry) (set ls j (struck (get_or ls j no_line))) ≡ map (λ (l : Line). l.entry) ls
+strike_entries : (ls : List StoredEntry) (j : ℕ) → map (λ (l : StoredEntry). l.entry) (set ls j (struck (get_or ls j no_stored_entry))) ≡ map (λ (l : StoredEntry). l.entry) ls
 strike_entries [] j = refl
 strike_entries (l ∷ ls) zero = refl
 strike_entries (l ∷ ls) (suc j) = ap (λ es. l.entry ∷ es) (strike_entries ls j)
@@ -92,14 +92,14 @@ pub book_strike : (j : ℕ) (u : Unit {0}) (h : List Event) (bk : Book) → Book
 book_strike j u h bk b = record {
   lawful = lawful_with_strike bk b.lawful j;
   nodes = b.nodes;
-  entries = strike_entries bk.lines j ∙ b.entries;
+  entries = strike_entries bk.entries j ∙ b.entries;
   live = λ i. (
     λ l.
         let apart = strike_apart bk j i l in
-        since apart ((b.live i).0 (sym (ap (λ (k : Line). k.live) (strike_other bk j i apart)) ∙ l)),
+        since apart ((b.live i).0 (sym (ap (λ (k : StoredEntry). k.live) (strike_other bk j i apart)) ∙ l)),
     λ s. (elim (split (strike j (Ok u)) h i s) [
       | inl p ↦ absurd (subst Takes (sym p.1) tt)
-      | inr p ↦ ap (λ (k : Line). k.live) (strike_other bk j i p.0) ∙ (b.live i).1 p.1
+      | inr p ↦ ap (λ (k : StoredEntry). k.live) (strike_other bk j i p.0) ∙ (b.live i).1 p.1
     ]),
   );
 }

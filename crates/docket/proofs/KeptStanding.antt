@@ -3,8 +3,8 @@ use Rattle.std.proofs.Common.{◌≡◌, ℕ, Bool, true, sym, refl, ap, ◌∙�
 use Rattle.std.proofs.lemmas.Bool.{false≢true}
 use Rattle.logic.specs.declared.records.Node.{Node}
 use Rattle.logic.specs.declared.records.Entry.{Entry}
-use Rattle.logic.specs.declared.records.Line.{Line}
-use Rattle.logic.specs.Books.{Book, line_at, with_node, with_entry, with_strike}
+use Rattle.logic.specs.declared.records.StoredEntry.{StoredEntry}
+use Rattle.logic.specs.Books.{Book, stored_at, with_node, with_entry, with_strike}
 use Rattle.logic.specs.Lawful.{Lawful}
 use Rattle.logic.specs.Models.{Model}
 use Rattle.logic.specs.Satisfaction.{HoldsIn, Satisfies}
@@ -24,11 +24,11 @@ pub record Core (bk : Book) (used : ℕ → Bool) : Type 0 where
 pub core_no_model : (bk : Book) (used : ℕ → Bool) → Core bk used → (m : Model) → Satisfies m bk → ⊥
 core_no_model bk used c m s = c.none m (λ i u. holds_at m bk s i (c.live i u))
 
--- a core lasts where its lines stay and are true no oftener
-core_lasts : (bk ck : Book) (used : ℕ → Bool) → Core bk used → ((i : ℕ) → used i ≡ true → line_at ck i ≡ line_at bk i) → ((m : Model) (i : ℕ) → used i ≡ true → HoldsIn m ck (entry_at bk i) → HoldsIn m bk (entry_at bk i)) → Core ck used
+-- a core lasts where its entries stay and are true no oftener
+core_lasts : (bk ck : Book) (used : ℕ → Bool) → Core bk used → ((i : ℕ) → used i ≡ true → stored_at ck i ≡ stored_at bk i) → ((m : Model) (i : ℕ) → used i ≡ true → HoldsIn m ck (entry_at bk i) → HoldsIn m bk (entry_at bk i)) → Core ck used
 core_lasts bk ck used c same held = record {
-  live = λ i u. ap (λ (k : Line). k.live) (same i u) ∙ c.live i u;
-  none = λ m h. c.none m (λ i u. held m i u (subst (λ (k : Line). HoldsIn m ck k.entry) (same i u) (h i u)));
+  live = λ i u. ap (λ (k : StoredEntry). k.live) (same i u) ∙ c.live i u;
+  none = λ m h. c.none m (λ i u. held m i u (subst (λ (k : StoredEntry). HoldsIn m ck k.entry) (same i u) (h i u)));
 }
 
 pub record StandingKept (bk : Book) (s : Standing) (used : ℕ → Bool) : Type 0 where
@@ -79,7 +79,7 @@ standing_strike bk j s t used next k =
             M.0,
             satisfies_at M.0 (with_strike bk j) (λ i l.
                 let same = strike_other bk j i (strike_apart bk j i l) in
-                subst (λ (n : Line). HoldsIn M.0 bk n.entry) (sym same) (holds_at M.0 bk M.1 i (sym (ap (λ (n : Line). n.live) same) ∙ l))),
+                subst (λ (n : StoredEntry). HoldsIn M.0 bk n.entry) (sym same) (holds_at M.0 bk M.1 i (sym (ap (λ (n : StoredEntry). n.live) same) ∙ l))),
           );
     }
 

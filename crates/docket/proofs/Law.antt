@@ -3,8 +3,8 @@ use Rattle.std.proofs.Common.{◌≡◌, Bool, true, false, ◌↔◌, List, [],
 use Rattle.std.proofs.lemmas.Bool.{false≢true}
 use Rattle.logic.specs.Books.{Book}
 use Rattle.logic.specs.Tableaux.{names}
-use Rattle.models.specs.Interpretations.{said}
-use Rattle.models.specs.Meanings.{Fits, meant}
+use Rattle.models.specs.Interpretations.{interpretation_of}
+use Rattle.models.specs.Meanings.{Compatible, model_of}
 use Rattle.models.specs.Encodings.{model_bytes}
 use Rattle.models.proofs.PairEncoding.{models_encoded}
 use Rattle.docket.specs.declared.standing.Standing.{Standing}
@@ -47,7 +47,7 @@ tabled (refute bs ls (Ok n)) h s t k (u, a, number, same, next, used) =
 tabled (refute bs ls (Err f)) h s t k (e, is, why, same, kept) = kept.standing
 tabled (show bs o list (Ok n)) h s t k (shown, same, next, used) =
     let a = shown.answer in
-    sure_satisfied s.standing t.standing (not_refuted s.book s.standing s.used (meant (said bs) o a.0.1) (a.3 a.0.1).0 k.standing) next
+    sure_satisfied s.standing t.standing (not_refuted s.book s.standing s.used (model_of (interpretation_of bs) o a.0.1) (a.3 a.0.1).0 k.standing) next
 tabled (show bs o list (Err f)) h s t k (e, is, why, same, kept) = kept.standing
 tabled (standing r) h s t k (is, same, kept) = kept.standing
 
@@ -145,5 +145,5 @@ docket_law h s r =
 pub models_handed : ModelsHanded
 models_handed m few o strict better =
     let e = (models_encoded m few).0 in
-    let f : Fits (said (model_bytes m)) o = record { valid = e.valid; strict = strict; sized = better.size ∙ sym e.size } in
+    let f : Compatible (interpretation_of (model_bytes m)) o = record { valid = e.valid; strict = strict; sized = better.size ∙ sym e.size } in
     (e.bytes, (e.whole, (f, e.means o f better)))

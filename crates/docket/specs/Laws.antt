@@ -4,34 +4,34 @@
 -- Handed, ModelsHanded, TableauxHanded: models and tableaux as they are handed over.
 -- Assumes nothing.
 use Rattle.std.specs.Prelude.{◌≡◌, ℕ, ◌≤◌, true, ◌↔◌, List, ◌++◌, map, length, Ok, Err, Decides, ◌≢◌}
-use Rattle.logic.specs.declared.records.Line.{Line}
-use Rattle.logic.specs.Books.{Book, line_at}
+use Rattle.logic.specs.declared.records.StoredEntry.{StoredEntry}
+use Rattle.logic.specs.Books.{Book, stored_at}
 use Rattle.logic.specs.Lawful.{Lawful}
 use Rattle.logic.specs.Models.{Model}
 use Rattle.logic.specs.Satisfaction.{Satisfies}
 use Rattle.logic.specs.Likeness.{Alike}
 use Rattle.logic.specs.Branches.{start}
-use Rattle.logic.specs.Tableaux.{Closed, writing, names, used}
+use Rattle.logic.specs.Tableaux.{Closed, writing, names, named_count}
 use Rattle.logic.specs.Limits.{Lengths, WithinLimits}
 use Rattle.logic.specs.Limits as limits
 use Rattle.logic.specs.Refusals.{node_refusal, entry_refusal}
 use Rattle.orders.specs.Masks.{Preference, Strict}
-use Rattle.models.specs.Interpretations.{said}
-use Rattle.models.specs.Meanings.{Fits, meant}
-use Rattle.models.specs.Answers.{Whole}
+use Rattle.models.specs.Interpretations.{interpretation_of}
+use Rattle.models.specs.Meanings.{Compatible, model_of}
+use Rattle.models.specs.Answers.{HasModelLength}
 use Rattle.models.specs.Encodings.{model_bytes, MeansBetter}
 use Rattle.logic.specs.declared.records.RawNode.{RawNode}
 use Rattle.logic.specs.declared.records.RawEntry.{RawEntry}
 use Rattle.books.specs.declared.faults.OfferFault.{OfferFault}
 use Rattle.books.specs.declared.faults.StrikeFault.{StrikeFault}
 use Rattle.books.specs.Faults.{strike_fault_place}
-use Rattle.books.specs.Answers.{nodes, entries, Refused, NotToStrike}
+use Rattle.books.specs.Answers.{nodes, entries, OfferRefused, CannotStrike}
 use Rattle.judge.specs.declared.faults.RefuteFault.{RefuteFault}
 use Rattle.judge.specs.declared.show_faults.ShowFault.{ShowFault}
 use Rattle.judge.specs.Steps.{decoded, encoded, Bytes}
-use Rattle.judge.specs.Reasons.{Reason}
+use Rattle.judge.specs.Reasons.{RefuteReason}
 use Rattle.judge.specs.Refutations.{Refutation}
-use Rattle.judge.specs.Shows.{ShowPromise}
+use Rattle.judge.specs.ShowAnswers.{ShowPromise}
 use Rattle.docket.specs.declared.fault.Fault.TheVariants as fault
 use Rattle.docket.specs.declared.standing.Standing.{Standing}
 use Rattle.docket.specs.declared.standing.Standing.TheVariants.{Refuted, Shown}
@@ -44,9 +44,9 @@ pub record Law (h : List Event) (s : State) : Type 0 where
   -- the book is lawful; its nodes and entries are those of the granted calls, in order
   pub lawful : Lawful s.book
   pub nodes : s.book.nodes ≡ granted_nodes h
-  pub entries : map (λ (l : Line). l.entry) s.book.lines ≡ granted_entries h
+  pub entries : map (λ (l : StoredEntry). l.entry) s.book.entries ≡ granted_entries h
   -- the live entries are those that enter took and strike has not since removed
-  pub live : (i : ℕ) → Decides (line_at s.book i).live (Stands i h)
+  pub live : (i : ℕ) → Decides (stored_at s.book i).live (Stands i h)
   -- the entries used are those that the last accepted tableau names
   pub used : (i : ℕ) → s.used i ≡ names (last_steps h) i
   -- the standing is the one that the table gives along the history
@@ -61,23 +61,23 @@ pub record Law (h : List Event) (s : State) : Type 0 where
 -- has a reason; show answers the number of elements, or the judge's exact fault.
 abbrev pub Answered : Book → Standing → Event → Type 0
 Answered bk s (node raw (Ok i)) = (node_refusal bk raw ≡ 0) × (i ≡ length bk.nodes)
-Answered bk s (node raw (Err f)) = (e : OfferFault RawNode) × (f ≡ fault.Node e) × Refused nodes bk raw e
-Answered bk s (enter raw (Ok i)) = (entry_refusal bk raw ≡ 0) × (i ≡ length bk.lines)
-Answered bk s (enter raw (Err f)) = (e : OfferFault RawEntry) × (f ≡ fault.Enter e) × Refused entries bk raw e
-Answered bk s (strike i (Ok u)) = (line_at bk i).live ≡ true
-Answered bk s (strike i (Err f)) = (e : StrikeFault) × (f ≡ fault.Strike e) × NotToStrike bk i e × (strike_fault_place e ≡ i)
+Answered bk s (node raw (Err f)) = (e : OfferFault RawNode) × (f ≡ fault.Node e) × OfferRefused nodes bk raw e
+Answered bk s (enter raw (Ok i)) = (entry_refusal bk raw ≡ 0) × (i ≡ length bk.entries)
+Answered bk s (enter raw (Err f)) = (e : OfferFault RawEntry) × (f ≡ fault.Enter e) × OfferRefused entries bk raw e
+Answered bk s (strike i (Ok u)) = (stored_at bk i).live ≡ true
+Answered bk s (strike i (Err f)) = (e : StrikeFault) × (f ≡ fault.Strike e) × CannotStrike bk i e × (strike_fault_place e ≡ i)
 Answered bk s (refute bs ls (Ok n)) =
-    Refutation bk ls bs × (n ≡ used (decoded bs)) × ((g : RefuteFault) → Reason bk ls bs g → ⊥)
+    Refutation bk ls bs × (n ≡ named_count (decoded bs)) × ((g : RefuteFault) → RefuteReason bk ls bs g → ⊥)
 Answered bk s (refute bs ls (Err f)) =
-    (e : RefuteFault) × (f ≡ fault.Refute e) × Reason bk ls bs e × (Refutation bk ls bs → ⊥)
-    × ((g : RefuteFault) → Reason bk ls bs g → g ≡ e)
+    (e : RefuteFault) × (f ≡ fault.Refute e) × RefuteReason bk ls bs e × (Refutation bk ls bs → ⊥)
+    × ((g : RefuteFault) → RefuteReason bk ls bs g → g ≡ e)
 Answered bk s (show bs o list (Ok n)) = ShowPromise bk bs o (length list) list (Ok n)
 Answered bk s (show bs o list (Err f)) = (e : ShowFault) × (f ≡ fault.Show e) × ShowPromise bk bs o (length list) list (Err e)
 Answered bk s (standing r) = r ≡ s
 
 -- the bytes and the order mean the model
 abbrev pub Handed : Model → List ℕ → Preference → Type 0
-Handed m bs o = Whole bs × ((f : Fits (said bs) o) × Alike m (meant (said bs) o f))
+Handed m bs o = HasModelLength bs × ((f : Compatible (interpretation_of bs) o) × Alike m (model_of (interpretation_of bs) o f))
 
 -- a refute that is handed a closed tableau over the live entries, written within the limits, and lists that
 -- are long enough for it
@@ -130,5 +130,5 @@ ModelsHanded =
 -- every closed tableau within the limits that fits the lists can be handed over as bytes
 abbrev pub TableauxHanded : Type 0
 TableauxHanded =
-    (bk : Book) → Lawful bk → (ls : Lengths) (t : Closed bk start) → WithinLimits t → limits.Fits ls t
+    (bk : Book) → Lawful bk → (ls : Lengths) (t : Closed bk start) → WithinLimits t → limits.FitsLists ls t
     → Bytes (encoded (writing t)) × Refutation bk ls (encoded (writing t))

@@ -12,9 +12,9 @@ use Rattle.books.specs.Answers.{nodes, entries, OfferAnswer, StrikeAnswer}
 use Rattle.judge.specs.declared.faults.RefuteFault.{RefuteFault}
 use Rattle.judge.specs.declared.show_faults.ShowFault.{ShowFault}
 use Rattle.judge.specs.declared.used.Used.{Used}
-use Rattle.judge.specs.Members.{member, members}
+use Rattle.judge.specs.Members.{member, member_count}
 use Rattle.judge.specs.Refutations.{RefuteAnswer}
-use Rattle.judge.specs.Shows.{ShowPromise}
+use Rattle.judge.specs.ShowAnswers.{ShowPromise}
 use Rattle.docket.specs.declared.fault.Fault.TheVariants as fault
 use Rattle.docket.specs.declared.standing.Standing.{Standing}
 use Rattle.docket.specs.declared.standing.Standing.TheVariants.{Open}
@@ -50,7 +50,7 @@ Moves (strike i (Ok u)) s t =
 Moves (strike i (Err f)) s t =
     (e : StrikeFault) × (f ≡ fault.Strike e) × StrikeAnswer s.book t.book i (Err e) × Kept s t
 Moves (refute bs ls (Ok n)) s t =
-    (u : Used) × RefuteAnswer s.book ls bs (Ok u) × (n ≡ members u) × (t.book ≡ s.book)
+    (u : Used) × RefuteAnswer s.book ls bs (Ok u) × (n ≡ member_count u) × (t.book ≡ s.book)
     × Next (Unit {0}) s.standing Closed t.standing × (t.used ≡ member u)
 Moves (refute bs ls (Err f)) s t =
     (e : RefuteFault) × (f ≡ fault.Refute e) × RefuteAnswer s.book ls bs (Err e) × (t.book ≡ s.book) × Kept s t

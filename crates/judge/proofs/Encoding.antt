@@ -13,7 +13,7 @@ use Rattle.logic.specs.Branches.{Branch, start, with, with_new}
 use Rattle.logic.specs.Rules.{step, Extends, fact, role_fact, not_holds, not_fails, and_holds, or_fails, some_holds, all_fails, all_holds, some_fails, typical_holds, admits, bars, Splits, inclusion, or_holds, and_fails, typical_fails, Closes, holds_and_fails, bars_and_admits, bottom_holds, top_fails}
 use Rattle.logic.specs.Tableaux.{Closed, close, extend, split, writing}
 use Rattle.logic.specs.Limits.{AfterEachStep, FewLabels}
-use Rattle.judge.specs.Steps.{pair_at, step_at, first_steps, decoded, encoded, Bytes}
+use Rattle.judge.specs.Steps.{u16_at, step_at, first_steps, decoded, encoded, Bytes}
 use Rattle.judge.specs.Laws.{TableauxHaveBytes}
 use Rattle.judge.proofs.Agreeing.{live_within}
 
@@ -27,7 +27,7 @@ later_byte bs i k =
     let e : 5 * suc i + k ≡ 5 + (5 * i + k) = omega arith in
     ap (λ n. get_or bs n 0) e ∙ sym (get_or-drop 5 bs (5 * i + k) 0)
 
-later_pair : (bs : List ℕ) (i k : ℕ) → pair_at bs (5 * suc i + k) ≡ pair_at (drop 5 bs) (5 * i + k)
+later_pair : (bs : List ℕ) (i k : ℕ) → u16_at bs (5 * suc i + k) ≡ u16_at (drop 5 bs) (5 * i + k)
 later_pair bs i k =
     let e : 5 * suc i + k + 1 ≡ 5 * suc i + (k + 1) = omega arith in
     let d : 5 * i + (k + 1) ≡ 5 * i + k + 1 = omega arith in
@@ -115,7 +115,7 @@ module _ (bk : Book) (formed : WellFormed bk) where
     by_edge b l = let c : length br.edges ≤ k = h.edges in omega arith
 
     by_entry : {a : ℕ} (e : _) → Live bk a e → a < 65536
-    by_entry {a} e live = let c : length bk.lines ≤ 256 = formed.few_lines in let l = live_within bk a e live in omega arith
+    by_entry {a} e live = let c : length bk.entries ≤ 256 = formed.few_entries in let l = live_within bk a e live in omega arith
 
     by_label : (b : ℕ) → b < br.next → b < 65536
     by_label b l = omega arith

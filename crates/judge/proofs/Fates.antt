@@ -14,9 +14,9 @@ use Rattle.judge.specs.declared.faults.RefuteFault.{RefuteFault}
 use Rattle.judge.specs.declared.faults.RefuteFault.TheVariants as fault
 use Rattle.judge.specs.declared.step_fault.StepFault.{StepFault}
 use Rattle.judge.specs.declared.step_fault.StepFault.TheVariants.{Full}
-use Rattle.judge.specs.Decisions.{decision}
-use Rattle.judge.specs.Progress.{Room, Underway, begun, extended, divided, turned, Finished, ended}
-use Rattle.judge.specs.Reasons.{NoRoom, branch_full, split_full, Because, Halted}
+use Rattle.judge.specs.StepEffects.{step_effect}
+use Rattle.judge.specs.Progress.{Room, Underway, begun, extended, divided, resumed, Finished, ended}
+use Rattle.judge.specs.Reasons.{NoRoom, branch_full, split_full, StepReason, StepsReason}
 use Rattle.judge.proofs.Agreeing.{extension, closes_decides, splits_decides, extends_decides}
 use Rattle.judge.proofs.Sorting.{refuses}
 
@@ -72,7 +72,7 @@ module _ (bk : Book) (ls : Lengths) where
 
   -- one step
   abbrev stepped : Step → Branch → List Branch → Result Status StepFault
-  stepped s br ps = tried (decision bk br s) br ps
+  stepped s br ps = tried (step_effect bk br s) br ps
 
   moved_to : (e : Effect) (br b : Branch) (ps : List Branch) → extension e br ≡ Some b → moved e br ps ≡ onto b ps
   moved_to (Adds c) br b ps h = let p : with br (c ∷ []) [] ≡ b = cc in ap (λ v. onto v ps) p
@@ -102,7 +102,7 @@ module _ (bk : Book) (ls : Lengths) where
     crowded (split_full {left = l} {right = r} k n) = by_splits l r k ∙ cond-false _ _ _ (roomy_false (length (r ∷ ps)) l n)
 
     -- a step with a reason against it is refused for it
-    refused : (f : StepFault) → Because bk ls f br (length ps) s → stepped s br ps ≡ Err f
+    refused : (f : StepFault) → StepReason bk ls f br (length ps) s → stepped s br ps ≡ Err f
     refused f b =
         ⊎_elim (λ h. ap (λ v. tried v br ps) h) (λ h. crowded h.1 ∙ ap Err (sym h.0))
         (refuses bk br s ls (length ps) f b)
@@ -138,7 +138,7 @@ module _ (bk : Book) (ls : Lengths) where
       one_more ss s br ps (working b ps) (comes u) (by_extends s br ps b r ∙ cond-true _ _ _ (roomy_true (length ps) b room))
   comes (divided {ss = ss} {br = br} {left = l} {right = r} {ps = ps} {s = s} u k room) =
       one_more ss s br ps (working l (r ∷ ps)) (comes u) (by_splits s br ps l r k ∙ cond-true _ _ _ (roomy_true (length (r ∷ ps)) l room))
-  comes (turned {ss = ss} {br = br} {b = b} {ps = ps} {s = s} u r) = one_more ss s br (b ∷ ps) (working b ps) (comes u) (by_closes s br (b ∷ ps) r)
+  comes (resumed {ss = ss} {br = br} {b = b} {ps = ps} {s = s} u r) = one_more ss s br (b ∷ ps) (working b ps) (comes u) (by_closes s br (b ∷ ps) r)
 
   ends : {ss : List Step} → Finished bk ls ss → Comes ss done
   ends (ended {ss = ss} {br = br} {s = s} u r) = one_more ss s br [] done (comes u) (by_closes s br [] r)
@@ -154,7 +154,7 @@ module _ (bk : Book) (ls : Lengths) where
   front ss i h = length-take-le i ss (omega arith)
 
   -- a reason decides the fate
-  halted_fate : (ss : List Step) (f : RefuteFault) → Halted bk ls ss f → fate_of ss ≡ Some f
+  halted_fate : (ss : List Step) (f : RefuteFault) → StepsReason bk ls ss f → fate_of ss ≡ Some f
   halted_fate ss (fault.BadLength n) h = absurd h
   halted_fate ss (fault.AtStep i f) h =
       ap fate_of (apart ss i h.current h.here)
@@ -170,11 +170,11 @@ module _ (bk : Book) (ls : Lengths) where
       ap fate_of (sym (append-nil ss)) ∙ comes h.1.2 [] ∙ ap (λ k. Some (fault.NotClosed k)) (sym h.0)
 
   -- steps that are taken to the end are not refused
-  pub not_both : (ss : List Step) (f : RefuteFault) → Finished bk ls ss → Halted bk ls ss f → ⊥
+  pub not_both : (ss : List Step) (f : RefuteFault) → Finished bk ls ss → StepsReason bk ls ss f → ⊥
   not_both ss f d h =
       let p = sym (finished_fate ss d) ∙ halted_fate ss f h in
       let z : ◌≡◌ {A = ℕ} 0 1 = cc p in omega arith
 
   -- steps are refused in one way
-  pub one_fault : (ss : List Step) (f g : RefuteFault) → Halted bk ls ss f → Halted bk ls ss g → f ≡ g
+  pub one_fault : (ss : List Step) (f g : RefuteFault) → StepsReason bk ls ss f → StepsReason bk ls ss g → f ≡ g
   one_fault ss f g h k = let p = sym (halted_fate ss f h) ∙ halted_fate ss g k in cc p

@@ -8,7 +8,7 @@ use Rattle.logic.specs.Books.{Book}
 use Rattle.logic.specs.Branches.{Branch}
 use Rattle.logic.specs.Limits.{Lengths}
 use Rattle.logic.specs.Rules.{Extends, fact, role_fact, not_holds, not_fails, and_holds, or_fails, some_holds, all_fails, all_holds, some_fails, typical_holds, admits, bars, Splits, inclusion, or_holds, and_fails, typical_fails}
-use Rattle.judge.specs.Progress.{Underway, begun, extended, divided, turned}
+use Rattle.judge.specs.Progress.{Underway, begun, extended, divided, resumed}
 
 -- what a branch may have after so many steps
 abbrev pub Few : ℕ → Branch → Type 0
@@ -66,7 +66,7 @@ all_few {bk = bk} (divided {ss = ss} {ps = ps} {s = s} u x room) =
     let e : length (ss ++ s ∷ []) ≡ length ss + 1 = length_push ss s in
     let both = splits_few bk (length ss) _ e x f.0 in
     (both.0, (both.1, all_more (length ss) _ ps e f.1))
-all_few (turned {ss = ss} {b = b} {ps = ps} {s = s} u x) =
+all_few (resumed {ss = ss} {b = b} {ps = ps} {s = s} u x) =
     let f = all_few u in
     let e : length (ss ++ s ∷ []) ≡ length ss + 1 = length_push ss s in
     (few_more (length ss) _ b e f.1.0, all_more (length ss) _ ps e f.1.1)

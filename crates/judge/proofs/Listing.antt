@@ -89,7 +89,7 @@ module _ {A : Type 0} (z : A) where
   pub listed_none : (l : List A) → Listed z l 0 []
   listed_none l =
       record {
-        held = λ i h. absurd (omega arith);
+        agree = λ i h. absurd (omega arith);
         count = refl;
         fits = omega arith;
       }
@@ -98,7 +98,7 @@ module _ {A : Type 0} (z : A) where
   pub listed_read : (l : List A) (k : ℕ) (xs : List A) (i : ℕ) → Listed z l k xs → cond (ltb i k) (get_or l i z) z ≡ get_or xs i z
   listed_read l k xs i s =
       ⊎_elim
-      (λ (h : i < k). cond-true _ (get_or l i z) z (lt-ltb i k h) ∙ s.held i h)
+      (λ (h : i < k). cond-true _ (get_or l i z) z (lt-ltb i k h) ∙ s.agree i h)
       (λ (h : k ≤ i). let c : length xs ≡ k = s.count in cond-false _ (get_or l i z) z (le-ltb i k h) ∙ sym (get_or_past xs i z (omega arith)))
       (cases_lt i k)
 
@@ -110,9 +110,9 @@ module _ {A : Type 0} (z : A) where
       let p : length (xs ++ ys) ≡ length xs + length ys = length-append xs ys in
       let n : length m ≡ length l = length_mid k ys l m h was in
       record {
-        held = λ i r.
+        agree = λ i r.
             ⊎_elim
-            (λ (q : i < k). e i ∙ below k (k + length ys) i (get_or ys (i - k) z) (get_or l i z) q ∙ s.held i q ∙ sym (get_or_append_left xs ys z i (omega arith)))
+            (λ (q : i < k). e i ∙ below k (k + length ys) i (get_or ys (i - k) z) (get_or l i z) q ∙ s.agree i q ∙ sym (get_or_append_left xs ys z i (omega arith)))
             (λ (q : k ≤ i). e i ∙ inside k (k + length ys) i (get_or ys (i - k) z) (get_or l i z) q r ∙ sym (get_or-append_right xs ys k i z c q))
             (cases_lt i k);
         count = omega arith;
@@ -126,7 +126,7 @@ module _ {A : Type 0} (z : A) where
       let c : length xs ≡ b = s.count in
       let t : length (take a xs) ≡ a = length-take-le a xs (omega arith) in
       record {
-        held = λ i p. e i ∙ below a b i z (get_or l i z) p ∙ s.held i (omega arith) ∙ sym (get_or-take a xs i z p);
+        agree = λ i p. e i ∙ below a b i z (get_or l i z) p ∙ s.agree i (omega arith) ∙ sym (get_or-take a xs i z p);
         count = t;
         fits = omega arith;
       }

@@ -7,9 +7,9 @@ use Rattle.std.proofs.lemmas.Bool.{cases_eq, cases_lt, cases_Bool, eq-eqb, ne_eq
 use Rattle.logic.specs.declared.tableau.Step.{Step}
 use Rattle.logic.specs.Books.{Book}
 use Rattle.logic.specs.Branches.{start}
-use Rattle.logic.specs.Tableaux.{Closed, writing, names, named_below, used}
+use Rattle.logic.specs.Tableaux.{Closed, writing, names, named_below, named_count}
 use Rattle.logic.proofs.NamedLive.{named_live}
-use Rattle.judge.specs.Members.{noted, marks_of}
+use Rattle.judge.specs.Members.{with_named, marks_of}
 use Rattle.judge.proofs.Agreeing.{live_within}
 
 -- one mark more
@@ -20,23 +20,23 @@ set_mark xs a i h =
     (λ (ne : a ≡ i → ⊥). rw (ne_eqb a i ne) (get_or-set_other xs a i true false (λ e. ne (sym e))))
     (cases_eq a i)
 
-noted_at : (xs : List Bool) (s : Step) (i : ℕ) → i < length xs → get_or (noted xs s) i false ≡ (((eqb s.op 1 || eqb s.op 2) && eqb s.a i) || get_or xs i false)
+noted_at : (xs : List Bool) (s : Step) (i : ℕ) → i < length xs → get_or (with_named xs s) i false ≡ (((eqb s.op 1 || eqb s.op 2) && eqb s.a i) || get_or xs i false)
 noted_at xs s i h = go (eqb s.op 1 || eqb s.op 2)
   where
     go : (b : Bool) → get_or (cond b (set xs s.a true) xs) i false ≡ ((b && eqb s.a i) || get_or xs i false)
     go true = set_mark xs s.a i h
     go false = refl
 
-noted_length : (xs : List Bool) (s : Step) → length (noted xs s) ≡ length xs
+noted_length : (xs : List Bool) (s : Step) → length (with_named xs s) ≡ length xs
 noted_length xs s = go (eqb s.op 1 || eqb s.op 2)
   where
     go : (b : Bool) → length (cond b (set xs s.a true) xs) ≡ length xs
     go true = length-set xs s.a true
     go false = refl
 
-all_length : (ss : List Step) (xs : List Bool) → length (fold noted xs ss) ≡ length xs
+all_length : (ss : List Step) (xs : List Bool) → length (fold with_named xs ss) ≡ length xs
 all_length [] xs = refl
-all_length (s ∷ ss) xs = all_length ss (noted xs s) ∙ noted_length xs s
+all_length (s ∷ ss) xs = all_length ss (with_named xs s) ∙ noted_length xs s
 
 swap : (a b c : Bool) → ((a || b) || c) ≡ (b || (a || c))
 swap true true c = refl
@@ -48,11 +48,11 @@ or_false : (b : Bool) → (b || false) ≡ b
 or_false true = refl
 or_false false = refl
 
-all_at : (ss : List Step) (xs : List Bool) (i : ℕ) → i < length xs → get_or (fold noted xs ss) i false ≡ (get_or xs i false || names ss i)
+all_at : (ss : List Step) (xs : List Bool) (i : ℕ) → i < length xs → get_or (fold with_named xs ss) i false ≡ (get_or xs i false || names ss i)
 all_at [] xs i h = sym (or_false (get_or xs i false))
 all_at (s ∷ ss) xs i h =
-    let l : length (noted xs s) ≡ length xs = noted_length xs s in
-    all_at ss (noted xs s) i (omega arith)
+    let l : length (with_named xs s) ≡ length xs = noted_length xs s in
+    all_at ss (with_named xs s) i (omega arith)
     ∙ ap (λ v. v || names ss i) (noted_at xs s i h)
     ∙ swap ((eqb s.op 1 || eqb s.op 2) && eqb s.a i) (get_or xs i false) (names ss i)
 
@@ -66,14 +66,14 @@ module _ (xs : List Bool) (ss : List Step) (same : (i : ℕ) → i < length xs �
       ∙ (λ i. marks_below k (omega arith) i + cond (same k (omega arith) i) 1 0)
       ∙ add_comm (named_below k ss) (cond (names ss k) 1 0)
 
-module _ (bk : Book) (few : length bk.lines ≤ 256) (ss : List Step) (t : Closed bk start) (w : writing t ≡ ss) where
+module _ (bk : Book) (few : length bk.entries ≤ 256) (ss : List Step) (t : Closed bk start) (w : writing t ≡ ss) where
   -- past the last entry nothing is named
   none_past : (i : ℕ) → 256 ≤ i → names ss i ≡ false
   none_past i h =
       ⊎_elim
       (λ (e : names ss i ≡ true).
       let l = named_live bk t i (subst (λ v. names v i ≡ true) (sym w) e) in
-      let k : i < length bk.lines = live_within bk i l.0 l.1 in absurd (omega arith))
+      let k : i < length bk.entries = live_within bk i l.0 l.1 in absurd (omega arith))
       (λ e. e)
       (cases_Bool (names ss i))
 
@@ -92,7 +92,7 @@ module _ (bk : Book) (few : length bk.lines ≤ 256) (ss : List Step) (t : Close
       (λ (h : length (marks_of ss) ≤ i). get_or_past (marks_of ss) i false h ∙ sym (none_past i (let e = long in omega arith)))
       (cases_lt i (length (marks_of ss)))
 
-  pub marks_counted : count_by (λ mark. mark) (marks_of ss) ≡ used ss
+  pub marks_counted : count_by (λ mark. mark) (marks_of ss) ≡ named_count ss
   marks_counted =
       ap (λ ms. count_by (λ mark. mark) ms) (sym (take_all 256 (marks_of ss) (let l = long in omega arith)))
       ∙ marks_below (marks_of ss) ss within 256 (let l = long in omega arith)

@@ -6,8 +6,8 @@ use Rattle.logic.specs.declared.records.Node.TheVariants.{Top, Bottom, Name, Not
 use Rattle.logic.specs.Lawful.{node_operands_below}
 use Rattle.orders.specs.Masks.{has, Preference}
 use Rattle.models.specs.Interpretations.{Interpretation}
-use Rattle.models.specs.Extensions.{Complement, Leading, BestOf}
-use Rattle.models.specs.NodeMasks.{LeadingOnly, MaskOfNode}
+use Rattle.models.specs.Extensions.{Complement, SomeSuccessorIn, BestOf}
+use Rattle.models.specs.NodeMasks.{AllSuccessorsIn, MaskOfNode}
 
 module _ (i : Interpretation) (o : Preference) (k : ℕ) (before after : List ℕ) (same : (c : ℕ) → c < k → get_or before c 0 ≡ get_or after c 0) where
   at : (c : ℕ) → ltb c k ≡ true → get_or before c 0 ≡ get_or after c 0
@@ -20,7 +20,7 @@ module _ (i : Interpretation) (o : Preference) (k : ℕ) (before after : List �
   same_mask (Not c) t m h = subst (λ s. Complement i s m) (at c t) h
   same_mask (And c d) t m h = let p = and_parts (ltb c k) (ltb d k) t in λ x. h x ∙ (λ j. has (at c p.0 j) x && has (at d p.1 j) x)
   same_mask (Or c d) t m h = let p = and_parts (ltb c k) (ltb d k) t in λ x. h x ∙ (λ j. has (at c p.0 j) x || has (at d p.1 j) x)
-  same_mask (All r c) t m h = subst (λ s. LeadingOnly i r s m) (at c t) h
-  same_mask (Exists r c) t m h = subst (λ s. Leading i r s m) (at c t) h
+  same_mask (All r c) t m h = subst (λ s. AllSuccessorsIn i r s m) (at c t) h
+  same_mask (Exists r c) t m h = subst (λ s. SomeSuccessorIn i r s m) (at c t) h
   same_mask (Typical c) t m h = subst (λ s. BestOf o s m) (at c t) h
   same_mask Absent t m h = h

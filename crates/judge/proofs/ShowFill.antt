@@ -11,11 +11,11 @@ use Rattle.logic.proofs.Reading.{concepts-push, length-concepts}
 use Rattle.logic.specs.Models.{Model}
 use Rattle.orders.specs.Masks.{Preference}
 use Rattle.models.specs.Interpretations.{Interpretation}
-use Rattle.models.specs.Meanings.{Fits, meant}
+use Rattle.models.specs.Meanings.{Compatible, model_of}
 use Rattle.models.specs.Extensions.{Extension, HaveSets, SetOfNode}
 use Rattle.models.proofs.ConceptSets.{empty_set}
 use Rattle.models.specs.NodeMasks.{MaskOfNode}
-use Rattle.judge.specs.NodeSets.{Zeros, Masks, Sets}
+use Rattle.judge.specs.NodeSets.{Zeros, HasNodeMasks, HasNodeSets}
 use Rattle.judge.proofs.Operands.{same_mask}
 use Rattle.judge.proofs.Replicated.{replicated}
 
@@ -34,13 +34,13 @@ module _ (bk : Book) (lawful : WellFormed bk) (i : Interpretation) (o : Preferen
   -- the list has the masks of the first k nodes, which are their sets where there is a model, and then zeros
   pub record FilledTo (k : ℕ) (list : List ℕ) : Type 0 where
     pub masks : (j : ℕ) → j < k → MaskOfNode i o list (node_at bk j) (get_or list j 0)
-    pub sets : (f : Fits i o) → HaveSets (meant i o f) (concepts (take k bk.nodes)) list
+    pub sets : (f : Compatible i o) → HaveSets (model_of i o f) (concepts (take k bk.nodes)) list
     pub rest : (j : ℕ) → k ≤ j → get_or list j 0 ≡ 0
 
   pub filled_none : (list : List ℕ) → Zeros list → FilledTo 0 list
   filled_none list z = record {
     masks = λ j l. absurd (omega arith);
-    sets = λ f j. subst (Extension (meant i o f) bottom) (sym (z j)) (empty_set (meant i o f));
+    sets = λ f j. subst (Extension (model_of i o f) bottom) (sym (z j)) (empty_set (model_of i o f));
     rest = λ j _. z j;
   }
 
@@ -63,9 +63,9 @@ module _ (bk : Book) (lawful : WellFormed bk) (i : Interpretation) (o : Preferen
         (subst (MaskOfNode i o (set list k v) (node_at bk k)) (sym here)
         (same_mask i o k list (set list k v) (λ c b. let other : c ≢ k = omega arith in elsewhere c other) (node_at bk k) (below k (omega arith)) v next))
 
-    sets_more : SetOfNode i o list (node_at bk k) v → (f : Fits i o) → HaveSets (meant i o f) (concepts (take (k + 1) bk.nodes)) (set list k v)
+    sets_more : SetOfNode i o list (node_at bk k) v → (f : Compatible i o) → HaveSets (model_of i o f) (concepts (take (k + 1) bk.nodes)) (set list k v)
     sets_more next f j =
-        let M = meant i o f in
+        let M = model_of i o f in
         let cs = concepts (take k bk.nodes) in
         let n = node_at bk k in
         let count : length cs ≡ k = length-concepts (take k bk.nodes) ∙ length-take-le k bk.nodes (omega arith) in
@@ -89,16 +89,16 @@ module _ (bk : Book) (lawful : WellFormed bk) (i : Interpretation) (o : Preferen
 
   -- all nodes: the list has every mask, and every set
   module _ (k : ℕ) (list : List ℕ) (l : length bk.nodes ≤ k) (g : k ≤ length bk.nodes) (h : FilledTo k list) where
-    pub all_masks : Masks bk i o list
+    pub all_masks : HasNodeMasks bk i o list
     all_masks = record { masks = λ j b. h.masks j (omega arith); rest = λ j past. h.rest j (omega arith) }
 
-    pub all_sets : (f : Fits i o) → Sets (meant i o f) bk list
+    pub all_sets : (f : Compatible i o) → HasNodeSets (model_of i o f) bk list
     all_sets f =
-        let all = subst (λ ns. HaveSets (meant i o f) (concepts ns) list) (take_all k bk.nodes l) (h.sets f) in
+        let all = subst (λ ns. HaveSets (model_of i o f) (concepts ns) list) (take_all k bk.nodes l) (h.sets f) in
         record { sets = λ j _. all j; rest = λ j past. h.rest j (omega arith) }
 
 -- so it has one at every place, the empty set past the nodes
-pub sets_everywhere : (m : Model) (bk : Book) (list : List ℕ) → Sets m bk list → HaveSets m (concepts bk.nodes) list
+pub sets_everywhere : (m : Model) (bk : Book) (list : List ℕ) → HasNodeSets m bk list → HaveSets m (concepts bk.nodes) list
 sets_everywhere m bk list s j = elim (cases_lt j (length bk.nodes)) [
   | inl l ↦ s.sets j l
   | inr l ↦

@@ -3,7 +3,7 @@ use Rattle.std.proofs.Common.{◌≡◌, ℕ, Bool, true, false, cond, not, ◌&
 use Rattle.std.specs.Option.{ok_or}
 use Rattle.std.proofs.lemmas.Bool.{both_ways, cond-true, cond-false}
 use Rattle.logic.specs.declared.tableau.Step.{Step}
-use Rattle.logic.specs.Books.{Book, line_at, node_at}
+use Rattle.logic.specs.Books.{Book, stored_at, node_at}
 use Rattle.logic.specs.Branches.{Branch}
 use Rattle.logic.specs.Limits.{Lengths}
 use Rattle.logic.specs.Rules.{NoRule}
@@ -13,9 +13,9 @@ use Rattle.judge.specs.declared.effect.Effect.TheVariants.{Adds, AddsTwo, Links,
 use Rattle.judge.specs.declared.step_fault.StepFault.{StepFault}
 use Rattle.judge.specs.declared.step_fault.StepFault.TheVariants.{Malformed, NeverEntered, NotThere, Struck, Misfit, Full}
 use Rattle.judge.specs.Blanks.{no_constraint}
-use Rattle.judge.specs.Ops.{op_of, operand_of, cites, stray, there, on_branch, test_op, malformed, never_entered, not_there, struck}
-use Rattle.judge.specs.Decisions.{named, expanded, cited, by_entry, by_constraint, decided, decision}
-use Rattle.judge.specs.Reasons.{Named, NoRoom, Because}
+use Rattle.judge.specs.Ops.{op_of, operand_of, names_entry, unused_not_zero, has_operand, has_operands, test_op, malformed, never_entered, lacks_operand, names_struck}
+use Rattle.judge.specs.StepEffects.{operand_records, constraint_effect, entry_effect, by_entry, by_constraint, by_known_op, step_effect}
+use Rattle.judge.specs.Reasons.{WellNamed, NoRoom, StepReason}
 use Rattle.judge.proofs.Agreeing.{does, closes_decides, splits_decides, extends_decides}
 
 -- a test failed before any rule is tried, or none did
@@ -67,35 +67,35 @@ failed false false n true true l x y f e = let z : ◌≡◌ {A = ℕ} 0 1 = cc 
 module _ (bk : Book) (br : Branch) (s : Step) where
   -- the four tests
   abbrev Sorted : Result Effect StepFault → Type 0
-  Sorted r = Told (malformed s) (never_entered bk s) (not_there br s) (struck bk s) r
+  Sorted r = Told (malformed s) (never_entered bk s) (lacks_operand br s) (names_struck bk s) r
 
-  sorted_op : (o : Option Op) → Told (test_op true (λ p. stray (operand_of p) s.b) o) (test_op false (λ p. cites p && leb (length bk.lines) s.a) o) (test_op false (λ p. not (on_branch p br s)) o) (test_op false (λ p. cites p && not (line_at bk s.a).live) o) (decided bk br s o)
+  sorted_op : (o : Option Op) → Told (test_op true (λ p. unused_not_zero (operand_of p) s.b) o) (test_op false (λ p. names_entry p && leb (length bk.entries) s.a) o) (test_op false (λ p. not (has_operands p br s)) o) (test_op false (λ p. names_entry p && not (stored_at bk s.a).live) o) (by_known_op bk br s o)
   unfolding by_entry by_constraint
   sorted_op None = refl
   sorted_op (Some o) =
       let c = get_or br.constraints s.a no_constraint in
-      told (stray (operand_of o) s.b) (cites o) (leb (length bk.lines) s.a) (there (operand_of o) br s.b) (ltb s.a (length br.constraints)) (line_at bk s.a).live
-      (cited (line_at bk s.a).entry o s.b) (expanded o c (node_at bk c.node) (named (operand_of o) br s.b).0 (named (operand_of o) br s.b).1)
+      told (unused_not_zero (operand_of o) s.b) (names_entry o) (leb (length bk.entries) s.a) (has_operand (operand_of o) br s.b) (ltb s.a (length br.constraints)) (stored_at bk s.a).live
+      (entry_effect (stored_at bk s.a).entry o s.b) (constraint_effect o c (node_at bk c.node) (operand_records (operand_of o) br s.b).0 (operand_records (operand_of o) br s.b).1)
 
-  sorted : (r : Result Effect StepFault) → decision bk br s ≡ r → Sorted r
+  sorted : (r : Result Effect StepFault) → step_effect bk br s ≡ r → Sorted r
   sorted r h = subst Sorted h (sorted_op (op_of s.op))
 
-  failed_op : (o : Option Op) (f : StepFault) → first_failed (test_op true (λ p. stray (operand_of p) s.b) o) (test_op false (λ p. cites p && leb (length bk.lines) s.a) o) (test_op false (λ p. not (on_branch p br s)) o) (test_op false (λ p. cites p && not (line_at bk s.a).live) o) ≡ Some f → decided bk br s o ≡ Err f
+  failed_op : (o : Option Op) (f : StepFault) → first_failed (test_op true (λ p. unused_not_zero (operand_of p) s.b) o) (test_op false (λ p. names_entry p && leb (length bk.entries) s.a) o) (test_op false (λ p. not (has_operands p br s)) o) (test_op false (λ p. names_entry p && not (stored_at bk s.a).live) o) ≡ Some f → by_known_op bk br s o ≡ Err f
   unfolding by_entry by_constraint
   failed_op None f e = cc
   failed_op (Some o) f e =
       let c = get_or br.constraints s.a no_constraint in
-      failed (stray (operand_of o) s.b) (cites o) (leb (length bk.lines) s.a) (there (operand_of o) br s.b) (ltb s.a (length br.constraints)) (line_at bk s.a).live
-      (cited (line_at bk s.a).entry o s.b) (expanded o c (node_at bk c.node) (named (operand_of o) br s.b).0 (named (operand_of o) br s.b).1) f e
+      failed (unused_not_zero (operand_of o) s.b) (names_entry o) (leb (length bk.entries) s.a) (has_operand (operand_of o) br s.b) (ltb s.a (length br.constraints)) (stored_at bk s.a).live
+      (entry_effect (stored_at bk s.a).entry o s.b) (constraint_effect o c (node_at bk c.node) (operand_records (operand_of o) br s.b).0 (operand_records (operand_of o) br s.b).1) f e
 
-  by_tests : (f : StepFault) → first_failed (malformed s) (never_entered bk s) (not_there br s) (struck bk s) ≡ Some f → decision bk br s ≡ Err f
+  by_tests : (f : StepFault) → first_failed (malformed s) (never_entered bk s) (lacks_operand br s) (names_struck bk s) ≡ Some f → step_effect bk br s ≡ Err f
   by_tests f e = failed_op (op_of s.op) f e
 
   module _ (ls : Lengths) (pending : ℕ) where
-    differ : {A : Type 0} (e : Effect) (f : StepFault) → decision bk br s ≡ Ok e → decision bk br s ≡ Err f → A
+    differ : {A : Type 0} (e : Effect) (f : StepFault) → step_effect bk br s ≡ Ok e → step_effect bk br s ≡ Err f → A
     differ e f p q = let z : ◌≡◌ {A = ℕ} 0 1 = cc in absurd (omega arith)
 
-    no_rule : (f : StepFault) → decision bk br s ≡ Err f → NoRule bk br s
+    no_rule : (f : StepFault) → step_effect bk br s ≡ Err f → NoRule bk br s
     no_rule f h =
         record {
           extends = λ b r. let g = extends_decides bk br s b r in differ g.0 f g.1 h;
@@ -104,7 +104,7 @@ module _ (bk : Book) (br : Branch) (s : Step) where
         }
 
     -- a decision that refuses has its reason
-    pub because : (f : StepFault) → decision bk br s ≡ Err f → Because bk ls f br pending s
+    pub because : (f : StepFault) → step_effect bk br s ≡ Err f → StepReason bk ls f br pending s
     because Malformed h = sorted (Err Malformed) h
     because NeverEntered h = sorted (Err NeverEntered) h
     because NotThere h = sorted (Err NotThere) h
@@ -114,7 +114,7 @@ module _ (bk : Book) (br : Branch) (s : Step) where
         (record { formed = t.0; entered = t.1; present = t.2; live = t.3 }, no_rule Misfit h)
     because Full h = absurd (sorted (Err Full) h)
 
-    ruled : (e : Effect) → decision bk br s ≡ Ok e → NoRule bk br s → ⊥
+    ruled : (e : Effect) → step_effect bk br s ≡ Ok e → NoRule bk br s → ⊥
     ruled (Adds c) h n = n.extends _ (does bk br s (Adds c) h)
     ruled (AddsTwo c d) h n = n.extends _ (does bk br s (AddsTwo c d) h)
     ruled (Links e) h n = n.extends _ (does bk br s (Links e) h)
@@ -123,10 +123,10 @@ module _ (bk : Book) (br : Branch) (s : Step) where
     ruled (Splitting c d) h n = n.splits _ _ (does bk br s (Splitting c d) h)
     ruled Closing h n = n.closes (does bk br s Closing h)
 
-    misfit : Named bk br s → NoRule bk br s → decision bk br s ≡ Err Misfit
-    misfit m n = go (decision bk br s) refl
+    misfit : WellNamed bk br s → NoRule bk br s → step_effect bk br s ≡ Err Misfit
+    misfit m n = go (step_effect bk br s) refl
       where
-        go : (r : Result Effect StepFault) → decision bk br s ≡ r → r ≡ Err Misfit
+        go : (r : Result Effect StepFault) → step_effect bk br s ≡ r → r ≡ Err Misfit
         go (Ok e) h = absurd (ruled e h n)
         go (Err Malformed) h = absurd (both_ways _ m.formed (sorted (Err Malformed) h))
         go (Err NeverEntered) h = absurd (both_ways _ m.entered (sorted (Err NeverEntered) h).1)
@@ -136,7 +136,7 @@ module _ (bk : Book) (br : Branch) (s : Step) where
         go (Err Full) h = absurd (sorted (Err Full) h)
 
     -- where there is a reason, the step is refused for it, unless it is for want of room
-    pub refuses : (f : StepFault) → Because bk ls f br pending s → (decision bk br s ≡ Err f) ⊎ ((f ≡ Full) × NoRoom bk ls br pending s)
+    pub refuses : (f : StepFault) → StepReason bk ls f br pending s → (step_effect bk br s ≡ Err f) ⊎ ((f ≡ Full) × NoRoom bk ls br pending s)
     refuses Malformed b = inl (by_tests Malformed (cond-true _ _ _ b))
     refuses NeverEntered b = inl (by_tests NeverEntered (cond-false _ _ _ b.0 ∙ cond-true _ _ _ b.1))
     refuses NotThere b = inl (by_tests NotThere (cond-false _ _ _ b.0 ∙ cond-false _ _ _ b.1 ∙ cond-true _ _ _ b.2))

@@ -6,13 +6,13 @@ use Rattle.judge.specs.declared.faults.RefuteFault.{RefuteFault}
 use Rattle.judge.specs.declared.faults.RefuteFault.TheVariants.{BadLength, AtStep, AfterClosing, NotClosed}
 use Rattle.judge.specs.declared.step_fault.StepFault.TheVariants.{Malformed, NeverEntered, NotThere, Struck, Misfit, Full}
 use Rattle.judge.specs.declared.used.Used.{Used}
-use Rattle.judge.specs.Faults.{Told}
-use Rattle.judge.specs.Reasons.{Halted}
+use Rattle.judge.specs.Faults.{HasNumberAndPlace}
+use Rattle.judge.specs.Reasons.{StepsReason}
 use Rattle.judge.specs.Steps.{decoded}
-use Rattle.judge.specs.Taking.{Worked}
+use Rattle.judge.specs.Taking.{WorkAnswer}
 
 module _ (bk : Book) (ls : Lengths) (bs : List ℕ) where
-  halted : (f : RefuteFault) → Halted bk ls (decoded bs) f → Told bs f
+  halted : (f : RefuteFault) → StepsReason bk ls (decoded bs) f → HasNumberAndPlace bs f
   halted (BadLength n) h = absurd h
   halted (AtStep i Malformed) h = (refl, refl)
   halted (AtStep i NeverEntered) h = (refl, refl)
@@ -23,6 +23,6 @@ module _ (bk : Book) (ls : Lengths) (bs : List ℕ) where
   halted (AfterClosing i) h = (refl, refl)
   halted (NotClosed n) h = (refl, h.0)
 
-  pub worked_told : (r : Result Used RefuteFault) → Worked bk ls (decoded bs) r → IfErr r (Told bs)
+  pub worked_told : (r : Result Used RefuteFault) → WorkAnswer bk ls (decoded bs) r → IfErr r (HasNumberAndPlace bs)
   worked_told (Ok u) h = tt
   worked_told (Err f) h = halted f h

@@ -8,9 +8,9 @@ use Rattle.logic.specs.Books.{Book}
 use Rattle.logic.specs.Branches.{Branch, start, with}
 use Rattle.logic.specs.Rules.{Closes, Splits, inclusion, or_holds, and_fails, typical_fails}
 use Rattle.logic.specs.Tableaux.{Closed, close, extend, split, writing}
-use Rattle.logic.specs.Limits.{AfterEachStep, Lengths, Takes, Fits, FewLabels}
+use Rattle.logic.specs.Limits.{AfterEachStep, Lengths, LongEnough, FitsLists, FewLabels}
 use Rattle.logic.proofs.Fitting.{each_weaker}
-use Rattle.judge.specs.Progress.{Room, Underway, begun, extended, divided, turned, Finished, ended}
+use Rattle.judge.specs.Progress.{Room, Underway, begun, extended, divided, resumed, Finished, ended}
 
 module _ (bk : Book) (ls : Lengths) where
   -- the two branches of a split are equally large
@@ -48,7 +48,7 @@ module _ (bk : Book) (ls : Lengths) where
       let v = r.0.0 in
       let w = whole u (split x t v) (room, f, second_room (length ps) x room, r.0.1) r.1 in
       (w.0, w.1 ∙ ap (λ l. ss ++ (s ∷ l)) (append_assoc (writing t) (writing v) (rest_steps ps r.1)) ∙ sym (append_assoc ss (s ∷ []) (writing t ++ (writing v ++ rest_steps ps r.1))), w.2)
-  whole (turned {ss = ss} {b = b} {ps = ps} {s = s} u x) t f r =
+  whole (resumed {ss = ss} {b = b} {ps = ps} {s = s} u x) t f r =
       let w = whole u (close x) tt ((t, f), r) in
       (w.0, w.1 ∙ sym (append_assoc ss (s ∷ []) (writing t ++ rest_steps ps r)), w.2)
 
@@ -62,7 +62,7 @@ module _ (bk : Book) (ls : Lengths) where
 
   closes_off : (ss : List Step) (s : Step) (br : Branch) (ps : List Branch) → Underway bk ls ss br ps → Closes bk br s → Turned (ss ++ s ∷ []) ps
   closes_off ss s br [] u x = ended u x
-  closes_off ss s br (p ∷ ps) u x = turned u x
+  closes_off ss s br (p ∷ ps) u x = resumed u x
 
   -- the writing of a closed tableau is worked to its end
   follow : {br : Branch} (t : Closed bk br) (ss : List Step) (ps : List Branch) → Underway bk ls ss br ps → Roomy (length ps) t → Turned (ss ++ writing t) ps
@@ -75,14 +75,14 @@ module _ (bk : Book) (ls : Lengths) where
       (follow v ((ss ++ s ∷ []) ++ writing t) ps first f.3)
 
   -- what holds of each branch, in two parts
-  both : {br : Branch} (k : ℕ) (t : Closed bk br) → AfterEachStep (Takes ls) k t → AfterEachStep FewLabels k t → Roomy k t
+  both : {br : Branch} (k : ℕ) (t : Closed bk br) → AfterEachStep (LongEnough ls) k t → AfterEachStep FewLabels k t → Roomy k t
   both k (close x) f g = tt
   both k (extend x t) f g = (record { lists = f.0; labels = g.0 }, both k t f.1 g.1)
   both k (split x t v) f g =
       (record { lists = f.0; labels = g.0 }, both (suc k) t f.1 g.1, record { lists = f.2; labels = g.2 }, both k v f.3 g.3)
 
-  pub closed_finished : (t : Closed bk start) → Fits ls t → AfterEachStep FewLabels 0 t → Finished bk ls (writing t)
+  pub closed_finished : (t : Closed bk start) → FitsLists ls t → AfterEachStep FewLabels 0 t → Finished bk ls (writing t)
   closed_finished t f g = follow t [] [] begun (both 0 t f g)
 
-  pub roomy_fits : (t : Closed bk start) → Roomy 0 t → Fits ls t × AfterEachStep FewLabels 0 t
-  roomy_fits t f = (each_weaker (Room ls) (Takes ls) (λ k b r. r.lists) 0 t f, each_weaker (Room ls) FewLabels (λ k b r. r.labels) 0 t f)
+  pub roomy_fits : (t : Closed bk start) → Roomy 0 t → FitsLists ls t × AfterEachStep FewLabels 0 t
+  roomy_fits t f = (each_weaker (Room ls) (LongEnough ls) (λ k b r. r.lists) 0 t f, each_weaker (Room ls) FewLabels (λ k b r. r.labels) 0 t f)

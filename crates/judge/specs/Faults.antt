@@ -1,5 +1,6 @@
 -- The number and the place of each case of the fault of refute.
--- refute_fault_number, refute_fault_place: what a fault says. Told: what it has to say of the bytes that were handed in.
+-- refute_fault_number, refute_fault_place: what a fault says. HasNumberAndPlace: what it has to say of the bytes
+-- that were handed in.
 -- Assumes nothing.
 use Rattle.std.specs.Prelude.{◌≡◌, ℕ, List, length}
 use Rattle.judge.specs.declared.faults.RefuteFault.{RefuteFault}
@@ -31,13 +32,13 @@ refute_fault_place (AfterClosing i) = i
 refute_fault_place (NotClosed n) = n
 
 -- case by case, its number and its place
-abbrev pub Told : List ℕ → RefuteFault → Type 0
-Told bs (BadLength n) = (refute_fault_number (BadLength n) ≡ 7) × (refute_fault_place (BadLength n) ≡ length bs)
-Told bs (AtStep i Malformed) = (refute_fault_number (AtStep i Malformed) ≡ 8) × (refute_fault_place (AtStep i Malformed) ≡ i)
-Told bs (AtStep i NeverEntered) = (refute_fault_number (AtStep i NeverEntered) ≡ 9) × (refute_fault_place (AtStep i NeverEntered) ≡ i)
-Told bs (AtStep i NotThere) = (refute_fault_number (AtStep i NotThere) ≡ 9) × (refute_fault_place (AtStep i NotThere) ≡ i)
-Told bs (AtStep i Struck) = (refute_fault_number (AtStep i Struck) ≡ 9) × (refute_fault_place (AtStep i Struck) ≡ i)
-Told bs (AtStep i Misfit) = (refute_fault_number (AtStep i Misfit) ≡ 10) × (refute_fault_place (AtStep i Misfit) ≡ i)
-Told bs (AtStep i Full) = (refute_fault_number (AtStep i Full) ≡ 11) × (refute_fault_place (AtStep i Full) ≡ i)
-Told bs (AfterClosing i) = (refute_fault_number (AfterClosing i) ≡ 12) × (refute_fault_place (AfterClosing i) ≡ i)
-Told bs (NotClosed n) = (refute_fault_number (NotClosed n) ≡ 13) × (refute_fault_place (NotClosed n) ≡ length (decoded bs))
+abbrev pub HasNumberAndPlace : List ℕ → RefuteFault → Type 0
+HasNumberAndPlace bs (BadLength n) = (refute_fault_number (BadLength n) ≡ 7) × (refute_fault_place (BadLength n) ≡ length bs)
+HasNumberAndPlace bs (AtStep i Malformed) = (refute_fault_number (AtStep i Malformed) ≡ 8) × (refute_fault_place (AtStep i Malformed) ≡ i)
+HasNumberAndPlace bs (AtStep i NeverEntered) = (refute_fault_number (AtStep i NeverEntered) ≡ 9) × (refute_fault_place (AtStep i NeverEntered) ≡ i)
+HasNumberAndPlace bs (AtStep i NotThere) = (refute_fault_number (AtStep i NotThere) ≡ 9) × (refute_fault_place (AtStep i NotThere) ≡ i)
+HasNumberAndPlace bs (AtStep i Struck) = (refute_fault_number (AtStep i Struck) ≡ 9) × (refute_fault_place (AtStep i Struck) ≡ i)
+HasNumberAndPlace bs (AtStep i Misfit) = (refute_fault_number (AtStep i Misfit) ≡ 10) × (refute_fault_place (AtStep i Misfit) ≡ i)
+HasNumberAndPlace bs (AtStep i Full) = (refute_fault_number (AtStep i Full) ≡ 11) × (refute_fault_place (AtStep i Full) ≡ i)
+HasNumberAndPlace bs (AfterClosing i) = (refute_fault_number (AfterClosing i) ≡ 12) × (refute_fault_place (AfterClosing i) ≡ i)
+HasNumberAndPlace bs (NotClosed n) = (refute_fault_number (NotClosed n) ≡ 13) × (refute_fault_place (NotClosed n) ≡ length (decoded bs))

@@ -9,11 +9,11 @@ use Rattle.logic.specs.Satisfaction.{Satisfies}
 use Rattle.logic.specs.Lawful.{WellFormed}
 use Rattle.logic.specs.Branches.{start}
 use Rattle.logic.specs.Tableaux.{Closed, writing}
-use Rattle.logic.specs.Limits.{Lengths, Fits, WithinLimits}
+use Rattle.logic.specs.Limits.{Lengths, FitsLists, WithinLimits}
 use Rattle.orders.specs.Masks.{Preference, Strict}
 use Rattle.models.specs.Encodings.{model_bytes, MeansBetter}
 use Rattle.judge.specs.declared.show_faults.ShowFault.{ShowFault}
-use Rattle.judge.specs.Shows.{ShowPromise}
+use Rattle.judge.specs.ShowAnswers.{ShowPromise}
 use Rattle.judge.specs.Steps.{decoded, encoded, Bytes}
 use Rattle.judge.specs.Refutations.{Refutation}
 
@@ -34,4 +34,4 @@ pub record HasBytes (bk : Book) (ls : Lengths) (t : Closed bk start) : Type 0 wh
 
 -- every closed tableau within the limits that fits the lists has bytes
 abbrev pub TableauxHaveBytes : Type 0
-TableauxHaveBytes = (bk : Book) → WellFormed bk → (ls : Lengths) (t : Closed bk start) → WithinLimits t → Fits ls t → HasBytes bk ls t
+TableauxHaveBytes = (bk : Book) → WellFormed bk → (ls : Lengths) (t : Closed bk start) → WithinLimits t → FitsLists ls t → HasBytes bk ls t

@@ -3,7 +3,7 @@ pub mod ShowFaults
 -- what the working list of show holds
 pub mod NodeSets
 -- what show answers
-pub mod Shows
+pub mod ShowAnswers
 -- the number and the place of each fault
 pub mod Faults
 -- lists of records that have a blank
@@ -17,11 +17,11 @@ pub mod Ops
 -- sets of entries
 pub mod Members
 -- what a step does, computed
-pub mod Decisions
+pub mod StepEffects
 -- a tableau under way
 pub mod Progress
 -- what the working lists hold
-pub mod Shown
+pub mod WorkingLists
 -- why a tableau is refused
 pub mod Reasons
 -- steps in the working lists

@@ -9,6 +9,6 @@ Blanked z a b before after = (i : ℕ) → slice_index_or after i z ≡ cond (na
 
 -- the first len records of a list are xs; nothing is said of the rest
 pub record Listed {A : Type 0} (z : A) (list : List A) (len : ℕ) (xs : List A) : Type 0 where
-  pub held : (i : ℕ) → i < len → slice_index_or list i z ≡ slice_index_or xs i z
+  pub agree : (i : ℕ) → i < len → slice_index_or list i z ≡ slice_index_or xs i z
   pub count : length xs ≡ len
   pub fits : len ≤ length list

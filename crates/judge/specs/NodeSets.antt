@@ -1,6 +1,6 @@
 -- What a working list of sets holds.
--- Zeros: nothing. Masks: the mask of each node, and then zeros. Sets: that they are the sets of a model.
--- FillAnswer: what filling a list answers.
+-- Zeros: nothing. HasNodeMasks: the mask of each node, and then zeros. HasNodeSets: that they are the sets of a model.
+-- NodeSetsAnswer: what filling a list answers.
 -- Assumes nothing.
 use Rattle.std.specs.Prelude.{◌≡◌, ℕ, ◌<◌, ◌≤◌, List, length, Ok, Err, Result, slice_index}
 use Rattle.logic.specs.declared.refusal.BadLength.{BadLength}
@@ -9,7 +9,7 @@ use Rattle.logic.specs.Books.{Book, node_at, concept}
 use Rattle.logic.specs.Models.{Model}
 use Rattle.orders.specs.Masks.{Preference}
 use Rattle.models.specs.Interpretations.{Interpretation}
-use Rattle.models.specs.Meanings.{Fits, meant}
+use Rattle.models.specs.Meanings.{Compatible, model_of}
 use Rattle.models.specs.Extensions.{Extension}
 use Rattle.models.specs.NodeMasks.{MaskOfNode}
 
@@ -19,18 +19,18 @@ Zeros list = (i : ℕ) → slice_index list i ≡ 0
 
 -- At the place of each node is its mask, by those of its operands, and then come zeros. As the operands of a node stand
 -- before it, only one list of a length is such, whatever the order and the interpretation.
-pub record Masks (bk : Book) (i : Interpretation) (o : Preference) (list : List ℕ) : Type 0 where
+pub record HasNodeMasks (bk : Book) (i : Interpretation) (o : Preference) (list : List ℕ) : Type 0 where
   pub masks : (k : ℕ) → k < length bk.nodes → MaskOfNode i o list (node_at bk k) (slice_index list k)
   pub rest : (k : ℕ) → length bk.nodes ≤ k → slice_index list k ≡ 0
 
 -- the set of each node of the book, and then zeros
-pub record Sets (m : Model) (bk : Book) (list : List ℕ) : Type 0 where
+pub record HasNodeSets (m : Model) (bk : Book) (list : List ℕ) : Type 0 where
   pub sets : (i : ℕ) → i < length bk.nodes → Extension m (concept bk i) (slice_index list i)
   pub rest : (i : ℕ) → length bk.nodes ≤ i → slice_index list i ≡ 0
 
 -- The masks, whatever the order. They are sets of a model only where the order is one of the interpretation's elements:
 -- then they are those of the model that the two mean. Or, where the list has not a place for each node, its length by
 -- number 17, and zeros.
-abbrev pub FillAnswer : Book → Interpretation → Preference → List ℕ → Result (Unit {0}) (BadLength 17) → Type 0
-FillAnswer bk i o list (Ok u) = (length bk.nodes ≤ length list) × Masks bk i o list × ((f : Fits i o) → Sets (meant i o f) bk list)
-FillAnswer bk i o list (Err e) = (length list < length bk.nodes) × (bad_length_number e ≡ 17) × (bad_length_place e ≡ length list) × Zeros list
+abbrev pub NodeSetsAnswer : Book → Interpretation → Preference → List ℕ → Result (Unit {0}) (BadLength 17) → Type 0
+NodeSetsAnswer bk i o list (Ok u) = (length bk.nodes ≤ length list) × HasNodeMasks bk i o list × ((f : Compatible i o) → HasNodeSets (model_of i o f) bk list)
+NodeSetsAnswer bk i o list (Err e) = (length list < length bk.nodes) × (bad_length_number e ≡ 17) × (bad_length_place e ≡ length list) × Zeros list

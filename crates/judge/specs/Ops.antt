@@ -1,10 +1,10 @@
 -- The ops of steps, and what their operands name.
--- op_of, OpOf: an op by its number. cites, operand_of: what its operands a and b name.
--- malformed, never_entered, not_there, struck: what can be wrong with a step before any rule is tried.
+-- op_of, OpOf: an op by its number. names_entry, operand_of: what its operands a and b name.
+-- malformed, never_entered, lacks_operand, names_struck: what can be wrong with a step before any rule is tried.
 -- Assumes nothing.
 use Rattle.std.specs.Prelude.{◌≡◌, ℕ, Bool, true, false, cond, not, ◌&&◌, ◌||◌, length, Some, None, MatchResult, Option, Result, ◌==◌, nat_le, nat_lt}
 use Rattle.logic.specs.declared.tableau.Step.{Step}
-use Rattle.logic.specs.Books.{Book, line_at}
+use Rattle.logic.specs.Books.{Book, stored_at}
 use Rattle.logic.specs.Branches.{Branch}
 use Rattle.judge.specs.declared.ops.Op.{Op}
 use Rattle.judge.specs.declared.ops.Op.TheVariants.{Assert, Include, Negation, Conjunction, Disjunction, Successor, AlongRole, Typical, Atypical, Better, AlongBetter, Clash, Absurd}
@@ -43,22 +43,22 @@ operand_of Clash = Constraint
 operand_of _ = Unused
 
 -- ops 1 and 2 name an entry by operand a; the others name a constraint
-abbrev pub cites : Op → Bool
-cites Assert = true
-cites Include = true
-cites _ = false
+abbrev pub names_entry : Op → Bool
+names_entry Assert = true
+names_entry Include = true
+names_entry _ = false
 
 -- an operand that is unused and not 0
-abbrev pub stray : Operand → ℕ → Bool
-stray Unused b = not (b == 0)
-stray _ b = false
+abbrev pub unused_not_zero : Operand → ℕ → Bool
+unused_not_zero Unused b = not (b == 0)
+unused_not_zero _ b = false
 
 -- the branch has what operand b names
-abbrev pub there : Operand → Branch → ℕ → Bool
-there Unused br b = true
-there Label br b = nat_lt b br.next
-there Edge br b = nat_lt b (length br.edges)
-there Constraint br b = nat_lt b (length br.constraints)
+abbrev pub has_operand : Operand → Branch → ℕ → Bool
+has_operand Unused br b = true
+has_operand Label br b = nat_lt b br.next
+has_operand Edge br b = nat_lt b (length br.edges)
+has_operand Constraint br b = nat_lt b (length br.constraints)
 
 -- a test of the op of a step; where the op is unknown, the answer is given
 abbrev pub test_op : Bool → (Op → Bool) → Option Op → Bool
@@ -67,20 +67,20 @@ test_op unknown test (Some op) = test op
 
 -- an unknown op, or an unused operand that is not 0
 abbrev pub malformed : Step → Bool
-malformed s = test_op true (λ op. stray (operand_of op) s.b) (op_of s.op)
+malformed s = test_op true (λ op. unused_not_zero (operand_of op) s.b) (op_of s.op)
 
 -- the entry that is named was never entered
 abbrev pub never_entered : Book → Step → Bool
-never_entered bk s = test_op false (λ op. cites op && nat_le (length bk.lines) s.a) (op_of s.op)
+never_entered bk s = test_op false (λ op. names_entry op && nat_le (length bk.entries) s.a) (op_of s.op)
 
 -- the branch has the constraint, edge or label that is named
-abbrev pub on_branch : Op → Branch → Step → Bool
-on_branch op br s = (cites op || nat_lt s.a (length br.constraints)) && there (operand_of op) br s.b
+abbrev pub has_operands : Op → Branch → Step → Bool
+has_operands op br s = (names_entry op || nat_lt s.a (length br.constraints)) && has_operand (operand_of op) br s.b
 
 -- it has not
-abbrev pub not_there : Branch → Step → Bool
-not_there br s = test_op false (λ op. not (on_branch op br s)) (op_of s.op)
+abbrev pub lacks_operand : Branch → Step → Bool
+lacks_operand br s = test_op false (λ op. not (has_operands op br s)) (op_of s.op)
 
 -- the entry that is named is not live
-abbrev pub struck : Book → Step → Bool
-struck bk s = test_op false (λ op. cites op && not (line_at bk s.a).live) (op_of s.op)
+abbrev pub names_struck : Book → Step → Bool
+names_struck bk s = test_op false (λ op. names_entry op && not (stored_at bk s.a).live) (op_of s.op)

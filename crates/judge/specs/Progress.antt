@@ -7,11 +7,11 @@ use Rattle.logic.specs.declared.tableau.Step.{Step}
 use Rattle.logic.specs.Books.{Book}
 use Rattle.logic.specs.Branches.{Branch, start}
 use Rattle.logic.specs.Rules.{Extends, Splits, Closes}
-use Rattle.logic.specs.Limits.{Lengths, Takes, FewLabels}
+use Rattle.logic.specs.Limits.{Lengths, LongEnough, FewLabels}
 
 -- the lists take the branch and so many pending splits, and no label is above 255
 pub record Room (ls : Lengths) (pending : ℕ) (br : Branch) : Type 0 where
-  pub lists : Takes ls pending br
+  pub lists : LongEnough ls pending br
   pub labels : FewLabels pending br
 
 -- After these steps br is the branch that is worked. The others are the second branches of the pending
@@ -25,7 +25,7 @@ pub data Underway (bk : Book) (ls : Lengths) : List Step → Branch → List Bra
   divided : {ss : List Step} {br left right : Branch} {ps : List Branch} {s : Step} → Underway bk ls ss br ps →
       Splits bk br s left right → Room ls (suc (length ps)) left → Underway bk ls (ss ++ s ∷ []) left (right ∷ ps)
   -- a rule that closes it: on with the latest pending branch
-  turned : {ss : List Step} {br b : Branch} {ps : List Branch} {s : Step} → Underway bk ls ss br (b ∷ ps) →
+  resumed : {ss : List Step} {br b : Branch} {ps : List Branch} {s : Step} → Underway bk ls ss br (b ∷ ps) →
       Closes bk br s → Underway bk ls (ss ++ s ∷ []) b ps
 
 -- the last of these steps closes the last branch

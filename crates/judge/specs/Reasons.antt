@@ -1,6 +1,6 @@
 -- Why a tableau is refused, in the terms of the calculus.
--- Named: a step is well formed and what it names is there. NoRoom: a rule has the step, and there is
--- no room for what it makes. Stopped: the work stands before a step. Because, Halted, Reason: of each
+-- WellNamed: a step is well formed and what it names is there. NoRoom: a rule has the step, and there is
+-- no room for what it makes. Stopped: the work stands before a step. StepReason, StepsReason, RefuteReason: of each
 -- case of the faults.
 -- Assumes nothing.
 use Rattle.std.specs.Prelude.{◌≡◌, ℕ, suc, ◌<◌, true, false, List, length, take}
@@ -14,16 +14,16 @@ use Rattle.judge.specs.declared.faults.RefuteFault.{RefuteFault}
 use Rattle.judge.specs.declared.faults.RefuteFault.TheVariants.{BadLength, AtStep, AfterClosing, NotClosed}
 use Rattle.judge.specs.declared.step_fault.StepFault.{StepFault}
 use Rattle.judge.specs.declared.step_fault.StepFault.TheVariants.{Malformed, NeverEntered, NotThere, Struck, Misfit, Full}
-use Rattle.judge.specs.Steps.{decoded, Whole}
-use Rattle.judge.specs.Ops.{malformed, never_entered, not_there, struck}
+use Rattle.judge.specs.Steps.{decoded, WholeSteps}
+use Rattle.judge.specs.Ops.{malformed, never_entered, lacks_operand, names_struck}
 use Rattle.judge.specs.Progress.{Room, Underway, Finished}
 
 -- the step is well formed, and all that it names is there
-pub record Named (bk : Book) (br : Branch) (s : Step) : Type 0 where
+pub record WellNamed (bk : Book) (br : Branch) (s : Step) : Type 0 where
   pub formed : malformed s ≡ false
   pub entered : never_entered bk s ≡ false
-  pub present : not_there br s ≡ false
-  pub live : struck bk s ≡ false
+  pub present : lacks_operand br s ≡ false
+  pub live : names_struck bk s ≡ false
 
 -- a rule has the step, and there is no room for the branch that it makes
 pub data NoRoom (bk : Book) (ls : Lengths) (br : Branch) (pending : ℕ) (s : Step) : Type 0 where
@@ -42,23 +42,23 @@ pub record Stopped (bk : Book) (ls : Lengths) (ss : List Step) (i : ℕ) (P : Br
 
 -- Why step s is refused on the branch br with so many splits pending. The tests of a step run in the
 -- order of the cases: its form, then what it names, then its rule, then the room.
-abbrev pub Because : Book → Lengths → StepFault → Branch → ℕ → Step → Type 0
-Because bk ls Malformed br pending s = malformed s ≡ true
-Because bk ls NeverEntered br pending s = (malformed s ≡ false) × (never_entered bk s ≡ true)
-Because bk ls NotThere br pending s = (malformed s ≡ false) × (never_entered bk s ≡ false) × (not_there br s ≡ true)
-Because bk ls Struck br pending s =
-    (malformed s ≡ false) × (never_entered bk s ≡ false) × (not_there br s ≡ false) × (struck bk s ≡ true)
-Because bk ls Misfit br pending s = Named bk br s × NoRule bk br s
-Because bk ls Full br pending s = NoRoom bk ls br pending s
+abbrev pub StepReason : Book → Lengths → StepFault → Branch → ℕ → Step → Type 0
+StepReason bk ls Malformed br pending s = malformed s ≡ true
+StepReason bk ls NeverEntered br pending s = (malformed s ≡ false) × (never_entered bk s ≡ true)
+StepReason bk ls NotThere br pending s = (malformed s ≡ false) × (never_entered bk s ≡ false) × (lacks_operand br s ≡ true)
+StepReason bk ls Struck br pending s =
+    (malformed s ≡ false) × (never_entered bk s ≡ false) × (lacks_operand br s ≡ false) × (names_struck bk s ≡ true)
+StepReason bk ls Misfit br pending s = WellNamed bk br s × NoRule bk br s
+StepReason bk ls Full br pending s = NoRoom bk ls br pending s
 
 -- why steps are refused: one of them, one after closing, or that a branch is still open at their end
-abbrev pub Halted : Book → Lengths → List Step → RefuteFault → Type 0
-Halted bk ls ss (BadLength n) = ⊥
-Halted bk ls ss (AtStep i f) = Stopped bk ls ss i (Because bk ls f)
-Halted bk ls ss (AfterClosing i) = (i < length ss) × Finished bk ls (take i ss)
-Halted bk ls ss (NotClosed n) = (n ≡ length ss) × ((br : Branch) × (ps : List Branch) × Underway bk ls ss br ps)
+abbrev pub StepsReason : Book → Lengths → List Step → RefuteFault → Type 0
+StepsReason bk ls ss (BadLength n) = ⊥
+StepsReason bk ls ss (AtStep i f) = Stopped bk ls ss i (StepReason bk ls f)
+StepsReason bk ls ss (AfterClosing i) = (i < length ss) × Finished bk ls (take i ss)
+StepsReason bk ls ss (NotClosed n) = (n ≡ length ss) × ((br : Branch) × (ps : List Branch) × Underway bk ls ss br ps)
 
 -- why bytes are refused: by their length, or by their steps
-pub data Reason (bk : Book) (ls : Lengths) (bs : List ℕ) : RefuteFault → Type 0 where
-  by_length : (Whole bs → ⊥) → Reason bk ls bs (BadLength (length bs))
-  by_steps : {f : RefuteFault} → Whole bs → Halted bk ls (decoded bs) f → Reason bk ls bs f
+pub data RefuteReason (bk : Book) (ls : Lengths) (bs : List ℕ) : RefuteFault → Type 0 where
+  by_length : (WholeSteps bs → ⊥) → RefuteReason bk ls bs (BadLength (length bs))
+  by_steps : {f : RefuteFault} → WholeSteps bs → StepsReason bk ls (decoded bs) f → RefuteReason bk ls bs f

@@ -6,30 +6,30 @@ use Rattle.logic.specs.Books.{Book}
 use Rattle.logic.specs.Models.{Model}
 use Rattle.logic.specs.Satisfaction.{Satisfies}
 use Rattle.logic.specs.Branches.{start}
-use Rattle.logic.specs.Tableaux.{Closed, writing, names, used}
-use Rattle.logic.specs.Limits.{Lengths, Fits, WithinLimits}
+use Rattle.logic.specs.Tableaux.{Closed, writing, names, named_count}
+use Rattle.logic.specs.Limits.{Lengths, FitsLists, WithinLimits}
 use Rattle.logic.specs.Soundness.{NamedTrue}
 use Rattle.judge.specs.declared.faults.RefuteFault.{RefuteFault}
 use Rattle.judge.specs.declared.used.Used.{Used}
-use Rattle.judge.specs.Steps.{decoded, Whole}
-use Rattle.judge.specs.Members.{member, members}
-use Rattle.judge.specs.Reasons.{Reason}
+use Rattle.judge.specs.Steps.{decoded, WholeSteps}
+use Rattle.judge.specs.Members.{member, member_count}
+use Rattle.judge.specs.Reasons.{RefuteReason}
 
 -- the bytes are the writing of a closed tableau over the starting branch, within the limits, for which
 -- the lists are long enough
 pub record Refutation (bk : Book) (ls : Lengths) (bs : List ℕ) : Type 0 where
   pub tableau : Closed bk start
-  pub whole : Whole bs
+  pub whole : WholeSteps bs
   pub written : writing tableau ≡ decoded bs
   pub limits : WithinLimits tableau
-  pub fits : Fits ls tableau
+  pub fits : FitsLists ls tableau
 
 -- what an accepted tableau shows
-pub record Refuted (bk : Book) (ls : Lengths) (bs : List ℕ) (u : Used) : Type 0 where
+pub record AcceptedTableau (bk : Book) (ls : Lengths) (bs : List ℕ) (u : Used) : Type 0 where
   pub refutation : Refutation bk ls bs
   -- the set has exactly the entries that the steps name, and is counted
   pub named : (i : ℕ) → member u i ≡ names (decoded bs) i
-  pub count : members u ≡ used (decoded bs)
+  pub count : member_count u ≡ named_count (decoded bs)
   -- no finite preferential model makes these entries true, so none satisfies the book
   pub sound : (m : Model) → NamedTrue m bk (decoded bs) → ⊥
   pub no_model : (m : Model) → Satisfies m bk → ⊥
@@ -37,6 +37,6 @@ pub record Refuted (bk : Book) (ls : Lengths) (bs : List ℕ) (u : Used) : Type 
 -- Accepted exactly when the bytes refute the book, and refused exactly for its reason.
 pub record RefuteAnswer (bk : Book) (ls : Lengths) (bs : List ℕ) (r : Result Used RefuteFault) : Type 0 where
   pub accepts : Refutation bk ls bs → (u : Used) × (r ≡ Ok u)
-  pub accepted : (u : Used) → r ≡ Ok u → Refuted bk ls bs u
-  pub refuses : (f : RefuteFault) → Reason bk ls bs f → r ≡ Err f
-  pub refused : (f : RefuteFault) → r ≡ Err f → Reason bk ls bs f
+  pub accepted : (u : Used) → r ≡ Ok u → AcceptedTableau bk ls bs u
+  pub refuses : (f : RefuteFault) → RefuteReason bk ls bs f → r ≡ Err f
+  pub refused : (f : RefuteFault) → r ≡ Err f → RefuteReason bk ls bs f

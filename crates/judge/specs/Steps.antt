@@ -1,5 +1,5 @@
 -- Steps in bytes: five for each, the op and then the operands a and b, low byte first.
--- step_at, decoded: the steps that bytes are. Whole: bytes of whole steps, and not too many.
+-- step_at, decoded: the steps that bytes are. WholeSteps: bytes of whole steps, and not too many.
 -- encoded: the bytes of steps. Bytes: numbers that are bytes.
 -- Assumes nothing.
 use Rattle.std.specs.Prelude.{◌≡◌, ℕ, zero, suc, ◌+◌, ◌*◌, ◌/◌, ◌%◌, ◌<◌, ◌≤◌, List, [], ◌∷◌, ◌++◌, length, slice_index}
@@ -8,12 +8,12 @@ use Rattle.logic.specs.declared.tableau.Step.{Step}
 use Rattle.logic.specs.Rules.{step}
 
 -- the number in the two bytes from place p on
-abbrev pub pair_at : List ℕ → ℕ → ℕ
-pair_at bs p = slice_index bs p + 256 * slice_index bs (p + 1)
+abbrev pub u16_at : List ℕ → ℕ → ℕ
+u16_at bs p = slice_index bs p + 256 * slice_index bs (p + 1)
 
 -- step i
 abbrev pub step_at : List ℕ → ℕ → Step
-step_at bs i = step (slice_index bs (5 * i)) (pair_at bs (5 * i + 1)) (pair_at bs (5 * i + 3))
+step_at bs i = step (slice_index bs (5 * i)) (u16_at bs (5 * i + 1)) (u16_at bs (5 * i + 3))
 
 -- the first n steps
 abbrev pub first_steps : ℕ → List ℕ → List Step
@@ -25,7 +25,7 @@ abbrev pub decoded : List ℕ → List Step
 decoded bs = first_steps (length bs / 5) bs
 
 -- the bytes are whole steps, at most 8,192
-pub record Whole (bs : List ℕ) : Type 0 where
+pub record WholeSteps (bs : List ℕ) : Type 0 where
   pub whole : length bs % 5 ≡ 0
   pub few : length bs ≤ 40960
 

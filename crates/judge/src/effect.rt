@@ -3,7 +3,7 @@ ghost use Rattle.std.specs.Prelude.{Some, Ok};
 ghost use Rattle.logic.specs.Branches.{with};
 ghost use Rattle.judge.specs.declared.effect.Effect.TheVariants.{Splits};
 ghost use Rattle.judge.specs.Blanks.{SameLists};
-ghost use Rattle.judge.specs.Shown.{Small, Sound, on, back, after, Goes};
+ghost use Rattle.judge.specs.WorkingLists.{SixteenBitCounts, HoldsSomeState, work_state, resumed_state, state_after, TransformsState};
 
 use crate::lists::{append, cut_back};
 use crate::step_fault::StepFault;
@@ -48,7 +48,7 @@ impl Lists<'_> {
         es: &[Edge],
     ) -> Result<Option<Counts>, StepFault>
         ensures same { SameLists self.old self.new }
-        ensures goes { Goes self.old at self.new (λ br ps. Some (on (with br cs.now es.now) ps)) result }
+        ensures transforms { TransformsState self.old at self.new (λ br ps. Some (work_state (with br cs.now es.now) ps)) result }
     {
         append(self.constraints, at.constraints, cs)?;
         append(self.edges, at.edges, es)?;
@@ -66,9 +66,9 @@ impl Lists<'_> {
         first: Constraint,
         second: Constraint,
     ) -> Result<Option<Counts>, StepFault>
-        requires { Small at }
+        requires { SixteenBitCounts at }
         ensures same { SameLists self.old self.new }
-        ensures goes { Goes self.old at self.new (after (Splits first second)) result }
+        ensures transforms { TransformsState self.old at self.new (state_after (Splits first second)) result }
     {
         let pending = Split {
             constraints: at.constraints as u16,
@@ -87,9 +87,9 @@ impl Lists<'_> {
 
     // The branch is closed: back to the latest split and on with its second alternative, if one is pending.
     fn close(&mut self, at: Counts) -> Option<Counts>
-        requires { Sound self.old at }
+        requires { HoldsSomeState self.old at }
         ensures same { SameLists self.old self.new }
-        ensures goes { Goes self.old at self.new (λ _ ps. back ps) (Ok result) }
+        ensures transforms { TransformsState self.old at self.new (λ _ ps. resumed_state ps) (Ok result) }
     {
         let left = at.splits.checked_sub(1)?;
         let latest = self.splits[left];
@@ -110,10 +110,10 @@ impl Lists<'_> {
     // What an effect does.
     #[inline(always)]
     pub(crate) fn apply(&mut self, effect: Effect, at: Counts) -> Result<Option<Counts>, StepFault>
-        requires sound { Sound self.old at }
-        requires small { Small at }
+        requires state { HoldsSomeState self.old at }
+        requires small { SixteenBitCounts at }
         ensures same { SameLists self.old self.new }
-        ensures goes { Goes self.old at self.new (after effect) result }
+        ensures transforms { TransformsState self.old at self.new (state_after effect) result }
     {
         match effect {
             Effect::Adds(c) => self.extend(at, &[c], &[]),

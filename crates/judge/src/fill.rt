@@ -1,6 +1,6 @@
 // The set of each node of a book, in a lent list.
-ghost use Rattle.models.specs.Held.{held};
-ghost use Rattle.judge.specs.NodeSets.{FillAnswer};
+ghost use Rattle.models.specs.Views.{view_meaning};
+ghost use Rattle.judge.specs.NodeSets.{NodeSetsAnswer};
 
 use crate::lists::{Blank, clear};
 use crate::show_faults::FillFault;
@@ -29,7 +29,7 @@ pub fn fill<B: ReadableBook, O: Order>(
     order: &O,
     list: &mut [u32],
 ) -> Result<(), FillFault>
-    ensures { FillAnswer (B.ReadableBook.meaning book.now) (held view.now) (O.Order.meaning order.now) list.new result }
+    ensures { NodeSetsAnswer (B.ReadableBook.meaning book.now) (view_meaning view.now) (O.Order.meaning order.now) list.new result }
 {
     clear(list);
     let count = book.node_count();

@@ -1,9 +1,9 @@
 // A tableau is worked, and refutes its book or is refused.
 ghost use Rattle.std.specs.Prelude.{◌≤◌, length, IfErr};
 ghost use Rattle.judge.specs.Blanks.{lengths, lengths_of, AllBlank, SameLists};
-ghost use Rattle.judge.specs.Faults.{Told};
+ghost use Rattle.judge.specs.Faults.{HasNumberAndPlace};
 ghost use Rattle.judge.specs.Steps.{decoded};
-ghost use Rattle.judge.specs.Taking.{Worked};
+ghost use Rattle.judge.specs.Taking.{WorkAnswer};
 ghost use Rattle.judge.specs.Refutations.{RefuteAnswer};
 
 use crate::faults::RefuteFault;
@@ -24,7 +24,7 @@ fn work<B: ReadableBook, W: Watch>(
 ) -> Result<Used, RefuteFault>
     requires { length bytes.now ≤ 40960 }
     ensures same { SameLists lists.old lists.new }
-    ensures worked { Worked (B.ReadableBook.meaning book.now) (lengths_of lists.old) (decoded bytes.now) result }
+    ensures worked { WorkAnswer (B.ReadableBook.meaning book.now) (lengths_of lists.old) (decoded bytes.now) result }
 {
     let mut used = Used::new();
     let mut open = Some(Counts::start());
@@ -58,7 +58,7 @@ pub fn refute_watched<B: ReadableBook, W: Watch>(
     watch: &mut W,
 ) -> Result<Used, RefuteFault>
     ensures answer { RefuteAnswer (B.ReadableBook.meaning book.now) (lengths constraints.old edges.old splits.old) bytes.now result }
-    ensures told { IfErr result (Told bytes.now) }
+    ensures number_and_place { IfErr result (HasNumberAndPlace bytes.now) }
     ensures blank { AllBlank (lengths constraints.old edges.old splits.old) constraints.new edges.new splits.new }
 {
     let mut lists = Lists {
@@ -85,7 +85,7 @@ pub fn refute<B: ReadableBook>(
     splits: &mut [Split],
 ) -> Result<Used, RefuteFault>
     ensures answer { RefuteAnswer (B.ReadableBook.meaning book.now) (lengths constraints.old edges.old splits.old) bytes.now result }
-    ensures told { IfErr result (Told bytes.now) }
+    ensures number_and_place { IfErr result (HasNumberAndPlace bytes.now) }
     ensures blank { AllBlank (lengths constraints.old edges.old splits.old) constraints.new edges.new splits.new }
 {
     refute_watched(book, bytes, constraints, edges, splits, &mut Unwatched)

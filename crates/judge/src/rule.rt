@@ -4,7 +4,7 @@ ghost use Rattle.logic.specs.Branches.{constraint, edge};
 ghost use Rattle.logic.specs.Lawful.{node_within_limits, entry_within_limits};
 ghost use Rattle.judge.specs.declared.effect.Effect.TheVariants.{Grows, GrowsTwo};
 ghost use Rattle.judge.specs.declared.ops.Op.TheVariants.{Include};
-ghost use Rattle.judge.specs.Decisions.{cited, expanded};
+ghost use Rattle.judge.specs.StepEffects.{entry_effect, constraint_effect};
 
 use crate::effect::Effect;
 use crate::effect::Effect::{Adds, AddsTwo, Closes, Grows, GrowsTwo, Links, Splits};
@@ -60,10 +60,10 @@ fn grows_two(from: u8, role: u8, first: Form, second: Form, node: u16) -> Effect
 }
 
 // An op on an entry, at label x.
-pub(crate) fn cite(op: Op, entry: Entry, x: u16) -> Option<Effect>
+pub(crate) fn entry_effect(op: Op, entry: Entry, x: u16) -> Option<Effect>
     requires label { op ≡ Include → x < 256 }
     requires limits { entry_within_limits entry ≡ true }
-    ensures { result ≡ cited entry op x }
+    ensures { result ≡ entry_effect entry op x }
 {
     let effect = match (op, entry) {
         (Assert, Entry::Fact(a, c)) => Adds(at(a as u8, Holds, c)),
@@ -76,7 +76,7 @@ pub(crate) fn cite(op: Op, entry: Entry, x: u16) -> Option<Effect>
 
 // An op on a constraint, which is on `node`. `edge` and `other` are what else the step may name.
 #[inline(always)]
-pub(crate) fn expand(
+pub(crate) fn constraint_effect(
     op: Op,
     constraint: Constraint,
     node: Node,
@@ -84,7 +84,7 @@ pub(crate) fn expand(
     other: Constraint,
 ) -> Option<Effect>
     requires { node_within_limits node ≡ true }
-    ensures { result ≡ expanded op constraint node edge other }
+    ensures { result ≡ constraint_effect op constraint node edge other }
 {
     let x = constraint.label;
     let n = constraint.node;

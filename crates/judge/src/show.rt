@@ -1,33 +1,33 @@
 // Shows that an interpretation and an order are a model of a book.
 ghost use Rattle.std.specs.Prelude.{length};
-ghost use Rattle.logic.specs.Books.{line_at};
+ghost use Rattle.logic.specs.Books.{stored_at};
 ghost use Rattle.models.specs.Fields.{FirstWithout};
-ghost use Rattle.models.specs.Held.{held};
-ghost use Rattle.judge.specs.Shows.{TrueIfLive, TellsFailing, FindsFalse, ShowPromise};
+ghost use Rattle.models.specs.Views.{view_meaning};
+ghost use Rattle.judge.specs.ShowAnswers.{TrueIfLive, IsLiveAndFalse, FindsFirstFalse, ShowPromise};
 
 use crate::fill::fill;
 use crate::lists::clear;
 use crate::show_faults::ShowFault;
 use books::book::ReadableBook;
-use logic::records::Line;
+use logic::records::StoredEntry;
 use models::truth::is_true;
 use models::view::View;
 use orders::order::Order;
 
 // Whether the entry is live and false, by the masks of the list.
-fn fails(view: &View, list: &[u32], line: Line) -> bool
-    ensures { TellsFailing (held view.now) list.now line result }
+fn is_live_and_false(view: &View, list: &[u32], stored: StoredEntry) -> bool
+    ensures { IsLiveAndFalse (view_meaning view.now) list.now stored result }
 {
-    line.live && !is_true(view, list, line.entry)
+    stored.live && !is_true(view, list, stored.entry)
 }
 
 // The lowest live entry that is false by the masks of the list, whatever they are. Where the list has the set of each
 // node, it is the lowest that is false in the model that the view means, with whatever order.
 pub(crate) fn first_false<B: ReadableBook>(book: &B, view: &View, list: &[u32]) -> Option<u16>
-    ensures lowest { FirstWithout (λ k. TrueIfLive (held view.now) list.now (line_at (B.meaning book.now) k)) (length (B.meaning book.now).lines) result }
-    ensures found { FindsFalse (B.meaning book.now) (held view.now) list.now result }
+    ensures lowest { FirstWithout (λ k. TrueIfLive (view_meaning view.now) list.now (stored_at (B.meaning book.now) k)) (length (B.meaning book.now).entries) result }
+    ensures found { FindsFirstFalse (B.meaning book.now) (view_meaning view.now) list.now result }
 {
-    (0..book.entry_count()).find(|i| fails(view, list, book.entry_at(*i)))
+    (0..book.entry_count()).find(|i| is_live_and_false(view, list, book.entry_at(*i)))
 }
 
 // Whether the interpretation in the bytes, with the order as its "better", satisfies the live entries of

@@ -3,15 +3,15 @@
 ghost use Rattle.std.specs.Prelude.{◌≡◌, ◌≤◌};
 ghost use Rattle.logic.specs.Branches.{Branch};
 ghost use Rattle.judge.specs.Blanks.{SameLists, lengths_of};
-ghost use Rattle.judge.specs.Ops.{there};
-ghost use Rattle.judge.specs.Decisions.{named, by_entry, by_constraint, decision};
-ghost use Rattle.judge.specs.Shown.{Counted, State, Holds, Small, Sound};
-ghost use Rattle.judge.specs.Taking.{Took};
+ghost use Rattle.judge.specs.Ops.{has_operand};
+ghost use Rattle.judge.specs.StepEffects.{operand_records, by_entry, by_constraint, step_effect};
+ghost use Rattle.judge.specs.WorkingLists.{Counted, WorkState, HoldsState, SixteenBitCounts, HoldsSomeState};
+ghost use Rattle.judge.specs.Taking.{TakeAnswer};
 
 use crate::effect::Effect;
 use crate::lists::{Blank, record_at};
 use crate::ops::{Op, Operand};
-use crate::rule::{cite, expand};
+use crate::rule::{constraint_effect, entry_effect};
 use crate::step_fault::StepFault;
 use crate::working::{Counts, Lists};
 use books::book::ReadableBook;
@@ -26,8 +26,8 @@ pub(crate) struct Taken {
 }
 
 // Whether the branch has what operand b names.
-fn present(operand: Operand, b: u16, at: Counts) -> bool
-    ensures { (br : Branch) → Counted at br → result ≡ there operand br b }
+fn has_operand(operand: Operand, b: u16, at: Counts) -> bool
+    ensures { (br : Branch) → Counted at br → result ≡ has_operand operand br b }
 {
     match operand {
         Operand::Unused => true,
@@ -45,19 +45,19 @@ fn by_entry<B: ReadableBook>(book: &B, op: Op, step: Step, at: Counts) -> Result
     if step.a >= book.entry_count() {
         return Err(StepFault::NeverEntered);
     }
-    if !present(op.second(), step.b, at) {
+    if !has_operand(op.second(), step.b, at) {
         return Err(StepFault::NotThere);
     }
-    let line = book.entry_at(step.a);
-    if !line.live {
+    let stored = book.entry_at(step.a);
+    if !stored.live {
         return Err(StepFault::Struck);
     }
-    cite(op, line.entry, step.b).ok_or(StepFault::Misfit)
+    entry_effect(op, stored.entry, step.b).ok_or(StepFault::Misfit)
 }
 
 // The edge and the constraint that operand b names; blanks in place of what it does not name.
-fn named(operand: Operand, b: u16, lists: &Lists, at: Counts) -> (Edge, Constraint)
-    ensures { (σ : State) → Holds lists.now at σ → result ≡ named operand σ.branch b }
+fn operand_records(operand: Operand, b: u16, lists: &Lists, at: Counts) -> (Edge, Constraint)
+    ensures { (σ : WorkState) → HoldsState lists.now at σ → result ≡ operand_records operand σ.branch b }
 {
     let b = b as usize;
     match operand {
@@ -78,15 +78,15 @@ fn by_constraint<B: ReadableBook>(
     lists: &Lists,
     at: Counts,
 ) -> Result<Effect, StepFault>
-    ensures { (σ : State) → Holds lists.now at σ → result ≡ by_constraint (B.meaning book.now) σ.branch op step }
+    ensures { (σ : WorkState) → HoldsState lists.now at σ → result ≡ by_constraint (B.meaning book.now) σ.branch op step }
 {
     let a = step.a as usize;
-    if a >= at.constraints || !present(op.second(), step.b, at) {
+    if a >= at.constraints || !has_operand(op.second(), step.b, at) {
         return Err(StepFault::NotThere);
     }
     let c = record_at(lists.constraints, at.constraints, a);
-    let (edge, other) = named(op.second(), step.b, lists, at);
-    expand(op, c, book.node_at(c.node), edge, other).ok_or(StepFault::Misfit)
+    let (edge, other) = operand_records(op.second(), step.b, lists, at);
+    constraint_effect(op, c, book.node_at(c.node), edge, other).ok_or(StepFault::Misfit)
 }
 
 // The effect of a step on an open branch.
@@ -97,7 +97,7 @@ fn decide<B: ReadableBook>(
     at: Counts,
 ) -> Result<Effect, StepFault>
     requires { at.labels ≤ 256 }
-    ensures { (σ : State) → Holds lists.now at σ → result ≡ decision (B.meaning book.now) σ.branch step }
+    ensures { (σ : WorkState) → HoldsState lists.now at σ → result ≡ step_effect (B.meaning book.now) σ.branch step }
 {
     let op = Op::try_from(step.op).map_err(|_| StepFault::Malformed)?;
     if op.second() == Operand::Unused && step.b != 0 {
@@ -116,10 +116,10 @@ pub(crate) fn take<B: ReadableBook>(
     lists: &mut Lists,
     at: Counts,
 ) -> Result<Taken, StepFault>
-    requires sound { Sound lists.old at }
-    requires small { Small at }
+    requires state { HoldsSomeState lists.old at }
+    requires small { SixteenBitCounts at }
     ensures same { SameLists lists.old lists.new }
-    ensures took { (σ : State) → Holds lists.old at σ → Took (B.meaning book.now) (lengths_of lists.old) (Holds lists.new) σ.branch σ.pending step result }
+    ensures answer { (σ : WorkState) → HoldsState lists.old at σ → TakeAnswer (B.meaning book.now) (lengths_of lists.old) (HoldsState lists.new) σ.branch σ.pending step result }
 {
     let effect = decide(book, step, lists, at)?;
     let at = lists.apply(effect, at)?;

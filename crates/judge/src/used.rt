@@ -1,6 +1,6 @@
 // The entries that a tableau names.
 ghost use Rattle.std.specs.Prelude.{◌≡◌, ℕ, false, replicate};
-ghost use Rattle.judge.specs.Members.{member, members, noted};
+ghost use Rattle.judge.specs.Members.{member, member_count, with_named};
 
 use crate::ops::Op;
 use logic::tableau::Step;
@@ -24,7 +24,7 @@ impl Used {
 
     // Marks the entry that a step names, if it names one.
     pub(crate) fn note(&mut self, step: Step)
-        ensures { self.new.marks ≡ noted self.old.marks step }
+        ensures { self.new.marks ≡ with_named self.old.marks step }
     {
         let i = step.a as usize;
         let names = matches!(Op::try_from(step.op), Ok(Op::Assert | Op::Include));
@@ -43,7 +43,7 @@ impl Used {
 
     // How many entries are in the set.
     pub fn count(&self) -> u16
-        ensures { result ≡ members self.now }
+        ensures { result ≡ member_count self.now }
     {
         self.marks.iter().filter(|mark| **mark).count() as u16
     }

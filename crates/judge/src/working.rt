@@ -1,7 +1,7 @@
 // The working lists of a tableau: constraints, edges and pending splits.
 ghost use Rattle.std.specs.Prelude.{◌≡◌};
 ghost use Rattle.judge.specs.Blanks.{no_constraint, no_edge, no_split, NoneInUse, SameLists};
-ghost use Rattle.judge.specs.Shown.{labelled};
+ghost use Rattle.judge.specs.WorkingLists.{labelled};
 
 use crate::lists::{Blank, clear};
 use crate::step_fault::StepFault;

@@ -7,7 +7,7 @@ use Rattle.std.specs.List.{AllByRecursion}
 use Rattle.std.proofs.lemmas.Bool.{false≢true}
 use Rattle.logic.specs.Concepts.{concepts}
 use Rattle.logic.specs.Books.{Book, node_at}
-use Rattle.logic.specs.Lawful.{node_well_formed, node_placed, entry_well_formed, entry_placed, WellFormed, TypicalityInPlace, Lawful}
+use Rattle.logic.specs.Lawful.{node_well_formed, node_typicality_allowed, entry_well_formed, entry_typicality_allowed, WellFormed, TypicalityInPlace, Lawful}
 
 pub true_dec : (b : Bool) → Dec (b ≡ true)
 true_dec true = yes refl
@@ -39,20 +39,20 @@ all_dec P d (x ∷ xs) = Dec.and (d x) (all_dec P d xs)
 well_formed_dec : (bk : Book) → Dec (WellFormed bk)
 well_formed_dec bk =
     Dec.of_iff
-    (λ h. record { few_nodes = h.0.0; few_lines = h.0.1; nodes = h.1.0; entries = h.1.1 }, λ w. ((w.few_nodes, w.few_lines), (w.nodes, w.entries)))
+    (λ h. record { few_nodes = h.0.0; few_entries = h.0.1; nodes = h.1.0; entries = h.1.1 }, λ w. ((w.few_nodes, w.few_entries), (w.nodes, w.entries)))
     (Dec.and
-    (Dec.and (dec_le (length bk.nodes) 512) (dec_le (length bk.lines) 256))
+    (Dec.and (dec_le (length bk.nodes) 512) (dec_le (length bk.entries) 256))
     (Dec.and
     (below_dec (λ i. node_well_formed i (node_at bk i) ≡ true) (λ i. true_dec (node_well_formed i (node_at bk i))) (length bk.nodes))
-    (all_dec (λ l. entry_well_formed (length bk.nodes) l.entry ≡ true) (λ l. true_dec (entry_well_formed (length bk.nodes) l.entry)) bk.lines)))
+    (all_dec (λ l. entry_well_formed (length bk.nodes) l.entry ≡ true) (λ l. true_dec (entry_well_formed (length bk.nodes) l.entry)) bk.entries)))
 
 in_place_dec : (bk : Book) → Dec (TypicalityInPlace bk)
 in_place_dec bk =
     Dec.of_iff
     (λ h. record { nodes = h.0; entries = h.1 }, λ t. (t.nodes, t.entries))
     (Dec.and
-    (below_dec (λ i. node_placed (concepts bk.nodes) (node_at bk i) ≡ true) (λ i. true_dec (node_placed (concepts bk.nodes) (node_at bk i))) (length bk.nodes))
-    (all_dec (λ l. entry_placed (concepts bk.nodes) l.entry ≡ true) (λ l. true_dec (entry_placed (concepts bk.nodes) l.entry)) bk.lines))
+    (below_dec (λ i. node_typicality_allowed (concepts bk.nodes) (node_at bk i) ≡ true) (λ i. true_dec (node_typicality_allowed (concepts bk.nodes) (node_at bk i))) (length bk.nodes))
+    (all_dec (λ l. entry_typicality_allowed (concepts bk.nodes) l.entry ≡ true) (λ l. true_dec (entry_typicality_allowed (concepts bk.nodes) l.entry)) bk.entries))
 
 pub lawful_dec : (bk : Book) → Dec (Lawful bk)
 lawful_dec bk =

@@ -6,23 +6,23 @@ use Rattle.std.proofs.lemmas.Bool.Decides.{nat_tests}
 use Rattle.logic.specs.declared.records.Entry.TheVariants.{Inclusion, Fact}
 use Rattle.logic.specs.Concepts.{concepts}
 use Rattle.logic.specs.Books.{node_at}
-use Rattle.logic.specs.Lawful.{node_well_formed, node_placed, Lawful}
+use Rattle.logic.specs.Lawful.{node_well_formed, node_typicality_allowed, Lawful}
 use Rattle.logic.specs.Models.{Model}
 use Rattle.logic.specs.Satisfaction.{HoldsIn, Satisfies}
 use Rattle.logic.specs.Places.{At}
 use Rattle.logic.specs.Branches.{Branch, start}
 use Rattle.logic.specs.Rules.{step, fact, typical_holds, and_holds, not_holds, inclusion, typical_fails, Closes, holds_and_fails, bars_and_admits, NoRule}
 use Rattle.logic.specs.Tableaux.{Closed, close, extend, split}
-use Rattle.logic.specs.Limits.{Lengths, Takes}
-use Rattle.logic.specs.Samples.{sample, refuted, SampleModel}
+use Rattle.logic.specs.Limits.{Lengths, LongEnough}
+use Rattle.logic.specs.Samples.{sample, unsatisfiable_sample, SampleModel}
 use Rattle.logic.specs.Examples.{second_side, SampleRefutation, WrongHandIn, Examples}
-use Rattle.logic.proofs.Lawfulness.{lawful_with_line}
+use Rattle.logic.proofs.Lawfulness.{lawful_with_stored}
 
 -- what stands at a place of a list that is written out
 pub there : {A : Type 0} {xs : List A} {i : ℕ} {x : A} → T (ltb i (length xs)) → get_or xs i x ≡ x → At xs i x
 there within is = record { within = lit< within; is = is }
 
-sample_nodes : (i : ℕ) → i < 7 → (node_well_formed i (node_at sample i) ≡ true) × (node_placed (concepts sample.nodes) (node_at sample i) ≡ true)
+sample_nodes : (i : ℕ) → i < 7 → (node_well_formed i (node_at sample i) ≡ true) × (node_typicality_allowed (concepts sample.nodes) (node_at sample i) ≡ true)
 sample_nodes zero h = (refl, refl)
 sample_nodes (suc zero) h = (refl, refl)
 sample_nodes (suc (suc zero)) h = (refl, refl)
@@ -35,12 +35,12 @@ sample_nodes (suc (suc (suc (suc (suc (suc (suc i))))))) h = absurd (omega arith
 sample_lawful : Lawful sample
 sample_lawful =
     record {
-      well_formed = record { few_nodes = lit≤ tt; few_lines = lit≤ tt; nodes = λ i h. (sample_nodes i h).0; entries = (refl, (refl, (refl, tt))) };
+      well_formed = record { few_nodes = lit≤ tt; few_entries = lit≤ tt; nodes = λ i h. (sample_nodes i h).0; entries = (refl, (refl, (refl, tt))) };
       in_place = record { nodes = λ i h. (sample_nodes i h).1; entries = (refl, (refl, (refl, tt))) };
     }
 
-refuted_lawful : Lawful refuted
-refuted_lawful = lawful_with_line sample sample_lawful (record { entry = Fact 0 3; live = true }) (lit< tt) refl refl
+refuted_lawful : Lawful unsatisfiable_sample
+refuted_lawful = lawful_with_stored sample sample_lawful (record { entry = Fact 0 3; live = true }) (lit< tt) refl refl
 
 -- the model: names 0, 1 and 2 have the elements {0, 1}, {0} and {1}, and 1 is better than 0
 atoms : ℕ → ℕ → Bool
@@ -106,7 +106,7 @@ satisfied (suc zero) e live = subst (HoldsIn model sample) (ap (λ l. l.entry) l
 satisfied (suc (suc zero)) e live = subst (HoldsIn model sample) (ap (λ l. l.entry) live) entry_2
 satisfied (suc (suc (suc i))) e live = absurd (false≢true (ap (λ l. l.live) live))
 
-tableau : Closed refuted start
+tableau : Closed unsatisfiable_sample start
 tableau =
     extend (fact {a = 2} {x = 0} {c = 5} refl)
     (extend (fact {a = 3} {x = 0} {c = 3} refl)
@@ -118,7 +118,7 @@ tableau =
     (close (holds_and_fails {a = 2} {b = 4} {x = 0} {n = 2} (there tt refl) (there tt refl)))))))
 
 -- lists that take a branch that is written out
-enough : {ls : Lengths} {k : ℕ} {br : Branch} → T (leb (length br.constraints) ls.constraints) → T (leb (length br.edges) ls.edges) → T (leb k ls.splits) → Takes ls k br
+enough : {ls : Lengths} {k : ℕ} {br : Branch} → T (leb (length br.constraints) ls.constraints) → T (leb (length br.edges) ls.edges) → T (leb k ls.splits) → LongEnough ls k br
 enough c e s = record { constraints = lit≤ c; edges = lit≤ e; splits = lit≤ s }
 
 refutation : SampleRefutation

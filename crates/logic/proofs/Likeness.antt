@@ -6,7 +6,7 @@ use Rattle.logic.specs.declared.records.Node.{Node}
 use Rattle.logic.specs.declared.records.Node.TheVariants as node
 use Rattle.logic.specs.declared.records.Entry.{Entry}
 use Rattle.logic.specs.declared.records.Entry.TheVariants as entry
-use Rattle.logic.specs.Concepts.{Concept, top, bottom, atom, not, and, or, all, some, typical, of, read, read_on}
+use Rattle.logic.specs.Concepts.{Concept, top, bottom, atom, not, and, or, all, some, typical, of, read, concepts_after}
 use Rattle.logic.specs.Books.{Book, concept}
 use Rattle.logic.specs.Lawful.{WellFormed, node_within_limits, entry_within_limits}
 use Rattle.logic.specs.Models.{Model, Sat}
@@ -45,7 +45,7 @@ known_push cs c k h i = elim (cases_order i (length cs)) [
   | inr (inr l) ↦ subst Known (sym (get_or_past (cs ++ c ∷ []) i bottom (omega (arith, length_push cs c)))) tt
 ]
 
-known_read_on : (cs : List Concept) (ns : List Node) → ((i : ℕ) → Known (of cs i)) → ((i : ℕ) → node_within_limits (get_or ns i node.Absent) ≡ true) → (i : ℕ) → Known (of (read_on cs ns) i)
+known_read_on : (cs : List Concept) (ns : List Node) → ((i : ℕ) → Known (of cs i)) → ((i : ℕ) → node_within_limits (get_or ns i node.Absent) ≡ true) → (i : ℕ) → Known (of (concepts_after cs ns) i)
 known_read_on cs [] k h i = k i
 known_read_on cs (n ∷ ns) k h i =
     known_read_on (cs ++ read cs n ∷ []) ns (known_push cs (read cs n) k (known_read cs k n (h zero))) (λ j. h (suc j)) i

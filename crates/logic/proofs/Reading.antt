@@ -5,11 +5,11 @@ use Rattle.std.proofs.lemmas.List.{length_push, map-append, get_or_append_left, 
 use Rattle.std.proofs.lemmas.Bool.{and_parts, ltb-true}
 use Rattle.logic.specs.declared.records.Node.{Node}
 use Rattle.logic.specs.declared.records.Node.TheVariants as node
-use Rattle.logic.specs.Concepts.{Concept, not, and, or, all, some, typical, bottom, of, read, read_on, concepts, plain, plain_marks, is_typical}
+use Rattle.logic.specs.Concepts.{Concept, not, and, or, all, some, typical, bottom, of, read, concepts_after, concepts, plain, plain_marks, is_typical}
 use Rattle.logic.specs.Lawful.{node_operands_below}
 use Rattle.logic.specs.Laws.{ConceptsStay}
 
-read_on-append : (cs : List Concept) (ns ms : List Node) → read_on cs (ns ++ ms) ≡ read_on (read_on cs ns) ms
+read_on-append : (cs : List Concept) (ns ms : List Node) → concepts_after cs (ns ++ ms) ≡ concepts_after (concepts_after cs ns) ms
 read_on-append cs [] ms = refl
 read_on-append cs (n ∷ ns) ms = read_on-append (cs ++ read cs n ∷ []) ns ms
 
@@ -17,7 +17,7 @@ read_on-append cs (n ∷ ns) ms = read_on-append (cs ++ read cs n ∷ []) ns ms
 pub concepts-push : (ns : List Node) (n : Node) → concepts (ns ++ n ∷ []) ≡ concepts ns ++ read (concepts ns) n ∷ []
 concepts-push ns n = read_on-append [] ns (n ∷ [])
 
-length-read_on : (cs : List Concept) (ns : List Node) → length (read_on cs ns) ≡ length cs + length ns
+length-read_on : (cs : List Concept) (ns : List Node) → length (concepts_after cs ns) ≡ length cs + length ns
 length-read_on cs [] = omega arith
 length-read_on cs (n ∷ ns) = omega (arith, length-read_on (cs ++ read cs n ∷ []) ns, length_push cs (read cs n))
 
@@ -26,7 +26,7 @@ pub length-concepts : (ns : List Node) → length (concepts ns) ≡ length ns
 length-concepts ns = length-read_on [] ns ∙ zero-add (length ns)
 
 -- the concepts so far stay
-stays : (cs : List Concept) (ns : List Node) (i : ℕ) → i < length cs → of (read_on cs ns) i ≡ of cs i
+stays : (cs : List Concept) (ns : List Node) (i : ℕ) → i < length cs → of (concepts_after cs ns) i ≡ of cs i
 stays cs [] i h = refl
 stays cs (n ∷ ns) i h =
     let more = cs ++ read cs n ∷ [] in
@@ -59,16 +59,16 @@ typical_read cs ds (node.Exists r c) = refl
 typical_read cs ds (node.Typical c) = refl
 typical_read cs ds node.Absent = refl
 
-typical_from : (cs ds : List Concept) (ns : List Node) (i : ℕ) → is_typical (of (read_on cs ns) (length cs + i)) ≡ is_typical (read ds (get_or ns i node.Absent))
+typical_from : (cs ds : List Concept) (ns : List Node) (i : ℕ) → is_typical (of (concepts_after cs ns) (length cs + i)) ≡ is_typical (read ds (get_or ns i node.Absent))
 typical_from cs ds [] i = ap is_typical (get_or_past cs (length cs + i) bottom (omega arith))
 typical_from cs ds (n ∷ ns) zero =
     let more = cs ++ read cs n ∷ [] in
-    let here : of (read_on more ns) (length cs + zero) ≡ read cs n = stays more ns (length cs + zero) (omega (arith, length_push cs (read cs n))) ∙ get_or_push cs (read cs n) bottom (length cs + zero) (omega arith) in
+    let here : of (concepts_after more ns) (length cs + zero) ≡ read cs n = stays more ns (length cs + zero) (omega (arith, length_push cs (read cs n))) ∙ get_or_push cs (read cs n) bottom (length cs + zero) (omega arith) in
     ap is_typical here ∙ typical_read cs ds n
 typical_from cs ds (n ∷ ns) (suc i) =
     let more = cs ++ read cs n ∷ [] in
     let place : length cs + suc i ≡ length more + i = omega (arith, length_push cs (read cs n)) in
-    ap (λ k. is_typical (of (read_on more ns) k)) place ∙ typical_from more ds ns i
+    ap (λ k. is_typical (of (concepts_after more ns) k)) place ∙ typical_from more ds ns i
 
 pub typical_at : (ds : List Concept) (ns : List Node) (i : ℕ) → is_typical (of (concepts ns) i) ≡ is_typical (read ds (get_or ns i node.Absent))
 typical_at ds ns i = ap (λ k. is_typical (of (concepts ns) k)) (sym (zero-add i)) ∙ typical_from [] ds ns i
@@ -86,17 +86,17 @@ read_alike k cs ds agree (node.Exists r c) h = ap (some r) (agree c (ltb-true c 
 read_alike k cs ds agree (node.Typical c) h = ap typical (agree c (ltb-true c k h))
 read_alike k cs ds agree node.Absent h = refl
 
-concept_from : (cs : List Concept) (ns : List Node) (i : ℕ) → node_operands_below (length cs + i) (get_or ns i node.Absent) ≡ true → of (read_on cs ns) (length cs + i) ≡ read (read_on cs ns) (get_or ns i node.Absent)
+concept_from : (cs : List Concept) (ns : List Node) (i : ℕ) → node_operands_below (length cs + i) (get_or ns i node.Absent) ≡ true → of (concepts_after cs ns) (length cs + i) ≡ read (concepts_after cs ns) (get_or ns i node.Absent)
 concept_from cs [] i h = get_or_past cs (length cs + i) bottom (omega arith)
 concept_from cs (n ∷ ns) zero h =
     let more = cs ++ read cs n ∷ [] in
     stays more ns (length cs + zero) (omega (arith, length_push cs (read cs n)))
     ∙ get_or_push cs (read cs n) bottom (length cs + zero) (omega arith)
-    ∙ read_alike (length cs + zero) cs (read_on more ns) (λ i l. sym (stays cs (n ∷ ns) i (omega arith))) n h
+    ∙ read_alike (length cs + zero) cs (concepts_after more ns) (λ i l. sym (stays cs (n ∷ ns) i (omega arith))) n h
 concept_from cs (n ∷ ns) (suc i) h =
     let more = cs ++ read cs n ∷ [] in
     let place : length cs + suc i ≡ length more + i = omega (arith, length_push cs (read cs n)) in
-    ap (of (read_on more ns)) place ∙ concept_from more ns i (subst (λ k. node_operands_below k (get_or ns i node.Absent) ≡ true) place h)
+    ap (of (concepts_after more ns)) place ∙ concept_from more ns i (subst (λ k. node_operands_below k (get_or ns i node.Absent) ≡ true) place h)
 
 -- the concept of node i is read over the concepts of all nodes, where its operands are earlier nodes
 pub concept_at : (ns : List Node) (i : ℕ) → node_operands_below i (get_or ns i node.Absent) ≡ true → of (concepts ns) i ≡ read (concepts ns) (get_or ns i node.Absent)

@@ -10,7 +10,7 @@ use Rattle.logic.specs.declared.tableau.Form.{Form}
 use Rattle.logic.specs.declared.tableau.Form.TheVariants as form
 use Rattle.logic.specs.declared.tableau.Step.{Step}
 use Rattle.logic.specs.Concepts.{Concept, not, some, all, read, concepts}
-use Rattle.logic.specs.Books.{Book, concept, line_at}
+use Rattle.logic.specs.Books.{Book, concept, stored_at}
 use Rattle.logic.specs.Lawful.{node_within_limits, entry_within_limits, WellFormed}
 use Rattle.logic.specs.Models.{Model, Sat}
 use Rattle.logic.specs.Satisfaction.{Live, HoldsIn}
@@ -36,7 +36,7 @@ counterexample m c r x n = go (membership_decided m (some r (not c)) x)
 
 module _ (bk : Book) (well : WellFormed bk) (m : Model) where
   -- a live entry is the entry at its place, and its numbers are within their limits
-  entered : (a : ℕ) {e : Entry} → Live bk a e → HoldsIn m bk (line_at bk a).entry → HoldsIn m bk e
+  entered : (a : ℕ) {e : Entry} → Live bk a e → HoldsIn m bk (stored_at bk a).entry → HoldsIn m bk e
   entered a live h = subst (λ l. HoldsIn m bk l.entry) live h
 
   limits : (a : ℕ) {e : Entry} → Live bk a e → entry_within_limits e ≡ true

@@ -7,28 +7,28 @@ use Rattle.logic.specs.declared.records.Node.{Node}
 use Rattle.logic.specs.declared.records.Node.TheVariants as node
 use Rattle.logic.specs.declared.records.Entry.{Entry}
 use Rattle.logic.specs.declared.records.Entry.TheVariants as entry
-use Rattle.logic.specs.declared.records.Line.{Line}
+use Rattle.logic.specs.declared.records.StoredEntry.{StoredEntry}
 use Rattle.logic.specs.Concepts.{Concept, of, concepts}
 
--- nodes and lines are numbered from 0; a line is an entry with its live mark
+-- nodes and entries are numbered from 0; each entry is stored with its live mark
 pub record Book : Type 0 where
   pub nodes : List Node
-  pub lines : List Line
+  pub entries : List StoredEntry
 
 abbrev pub empty : Book
-empty = record { nodes = []; lines = [] }
+empty = record { nodes = []; entries = [] }
 
 -- node i; Absent past the end
 abbrev pub node_at : Book → ℕ → Node
 node_at bk i = slice_index_or bk.nodes i node.Absent
 
--- what stands past the last line: no entry, and not live
-abbrev pub no_line : Line
-no_line = record { entry = entry.Absent; live = false }
+-- what stands past the last entry: no entry, and not live
+abbrev pub no_stored_entry : StoredEntry
+no_stored_entry = record { entry = entry.Absent; live = false }
 
--- line i
-abbrev pub line_at : Book → ℕ → Line
-line_at bk i = slice_index_or bk.lines i no_line
+-- entry i
+abbrev pub stored_at : Book → ℕ → StoredEntry
+stored_at bk i = slice_index_or bk.entries i no_stored_entry
 
 -- the concept of node i
 abbrev pub concept : Book → ℕ → Concept
@@ -36,16 +36,16 @@ concept bk i = of (concepts bk.nodes) i
 
 -- one node more
 abbrev pub with_node : Book → Node → Book
-with_node bk n = record { nodes = bk.nodes ++ n ∷ []; lines = bk.lines }
+with_node bk n = record { nodes = bk.nodes ++ n ∷ []; entries = bk.entries }
 
 -- one entry more, live
 abbrev pub with_entry : Book → Entry → Book
-with_entry bk e = record { nodes = bk.nodes; lines = bk.lines ++ (record { entry = e; live = true }) ∷ [] }
+with_entry bk e = record { nodes = bk.nodes; entries = bk.entries ++ (record { entry = e; live = true }) ∷ [] }
 
 -- the same entry, no longer live
-abbrev pub struck : Line → Line
+abbrev pub struck : StoredEntry → StoredEntry
 struck l = record { entry = l.entry; live = false }
 
--- line i struck, and nothing else changed
+-- entry i struck, and nothing else changed
 abbrev pub with_strike : Book → ℕ → Book
-with_strike bk i = record { nodes = bk.nodes; lines = slice_set bk.lines i (struck (line_at bk i)) }
+with_strike bk i = record { nodes = bk.nodes; entries = slice_set bk.entries i (struck (stored_at bk i)) }

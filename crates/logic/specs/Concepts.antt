@@ -32,13 +32,13 @@ read cs (Typical c) = typical (of cs c)
 read cs Absent = bottom
 
 -- one node after the other, each read over the concepts so far
-abbrev pub read_on : List Concept → List Node → List Concept
-read_on cs [] = cs
-read_on cs (n ∷ ns) = read_on (cs ++ read cs n ∷ []) ns
+abbrev pub concepts_after : List Concept → List Node → List Concept
+concepts_after cs [] = cs
+concepts_after cs (n ∷ ns) = concepts_after (cs ++ read cs n ∷ []) ns
 
 -- the concepts of a list of nodes, bottom up
 abbrev pub concepts : List Node → List Concept
-concepts ns = read_on [] ns
+concepts ns = concepts_after [] ns
 
 -- no typicality occurs in the concept, at any depth
 abbrev pub plain : Concept → Bool

@@ -10,9 +10,9 @@ use Rattle.logic.specs.Models.{Model}
 use Rattle.logic.specs.Satisfaction.{Satisfies}
 use Rattle.logic.specs.Branches.{Branch, start, constraint, with, Says}
 use Rattle.logic.specs.Rules.{step, Extends, Splits, Closes, NoRule}
-use Rattle.logic.specs.Tableaux.{Closed, writing, used}
-use Rattle.logic.specs.Limits.{Fits, WithinLimits}
-use Rattle.logic.specs.Samples.{sample, refuted, refutation, SampleModel}
+use Rattle.logic.specs.Tableaux.{Closed, writing, named_count}
+use Rattle.logic.specs.Limits.{FitsLists, WithinLimits}
+use Rattle.logic.specs.Samples.{sample, unsatisfiable_sample, refutation, SampleModel}
 
 -- each with what its step adds; here, that individual 0 holds T(release and yanked)
 abbrev pub after_fact : Branch
@@ -55,16 +55,16 @@ pub record WrongHandIn : Type 0 where
 -- the refutation is a closed tableau that names four entries, within the limits, for which lists of
 -- five constraints, no edge and one split are long enough
 pub record SampleRefutation : Type 0 where
-  pub tableau : Closed refuted start
+  pub tableau : Closed unsatisfiable_sample start
   pub written : writing tableau ≡ refutation
-  pub four : used (writing tableau) ≡ 4
+  pub four : named_count (writing tableau) ≡ 4
   pub limits : WithinLimits tableau
-  pub fits : Fits (record { constraints = 5; edges = 0; splits = 1 }) tableau
+  pub fits : FitsLists (record { constraints = 5; edges = 0; splits = 1 }) tableau
 
 -- the first book has a model, so that the theorem of soundness is not empty; the second is refuted
 pub record Examples : Type 0 where
   pub sample_lawful : Lawful sample
-  pub refuted_lawful : Lawful refuted
+  pub refuted_lawful : Lawful unsatisfiable_sample
   pub model : (m : Model) × SampleModel m × Satisfies m sample
   pub refutation : SampleRefutation
   pub wrong : WrongHandIn

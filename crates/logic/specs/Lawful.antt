@@ -12,17 +12,17 @@ use Rattle.std.specs.List.{AllByRecursion}
 use Rattle.logic.specs.Books.{Book, node_at}
 
 -- it is a node at all
-abbrev pub node_known : Node → Bool
-node_known node.Top = true
-node_known node.Bottom = true
-node_known (node.Name a) = true
-node_known (node.Not c) = true
-node_known (node.And c d) = true
-node_known (node.Or c d) = true
-node_known (node.All r c) = true
-node_known (node.Exists r c) = true
-node_known (node.Typical c) = true
-node_known node.Absent = false
+abbrev pub is_node : Node → Bool
+is_node node.Top = true
+is_node node.Bottom = true
+is_node (node.Name a) = true
+is_node (node.Not c) = true
+is_node (node.And c d) = true
+is_node (node.Or c d) = true
+is_node (node.All r c) = true
+is_node (node.Exists r c) = true
+is_node (node.Typical c) = true
+is_node node.Absent = false
 
 -- there are 64 concept names and 16 roles
 abbrev pub node_within_limits : Node → Bool
@@ -51,24 +51,24 @@ node_operands_below n (node.Typical c) = nat_lt c n
 node_operands_below n node.Absent = true
 
 -- Below all, some and T stands no T, at any depth; cs are the concepts of the book's nodes.
-abbrev pub node_placed : List Concept → Node → Bool
-node_placed cs node.Top = true
-node_placed cs node.Bottom = true
-node_placed cs (node.Name a) = true
-node_placed cs (node.Not c) = true
-node_placed cs (node.And c d) = true
-node_placed cs (node.Or c d) = true
-node_placed cs (node.All r c) = plain (of cs c)
-node_placed cs (node.Exists r c) = plain (of cs c)
-node_placed cs (node.Typical c) = plain (of cs c)
-node_placed cs node.Absent = true
+abbrev pub node_typicality_allowed : List Concept → Node → Bool
+node_typicality_allowed cs node.Top = true
+node_typicality_allowed cs node.Bottom = true
+node_typicality_allowed cs (node.Name a) = true
+node_typicality_allowed cs (node.Not c) = true
+node_typicality_allowed cs (node.And c d) = true
+node_typicality_allowed cs (node.Or c d) = true
+node_typicality_allowed cs (node.All r c) = plain (of cs c)
+node_typicality_allowed cs (node.Exists r c) = plain (of cs c)
+node_typicality_allowed cs (node.Typical c) = plain (of cs c)
+node_typicality_allowed cs node.Absent = true
 
 -- it is an entry at all
-abbrev pub entry_known : Entry → Bool
-entry_known (entry.Inclusion c d) = true
-entry_known (entry.Fact x c) = true
-entry_known (entry.RoleFact r x y) = true
-entry_known entry.Absent = false
+abbrev pub is_entry : Entry → Bool
+is_entry (entry.Inclusion c d) = true
+is_entry (entry.Fact x c) = true
+is_entry (entry.RoleFact r x y) = true
+is_entry entry.Absent = false
 
 -- there are 32 individuals and 16 roles
 abbrev pub entry_within_limits : Entry → Bool
@@ -86,29 +86,29 @@ entry_operands_below n entry.Absent = true
 
 -- On the left of an inclusion stands T of something, or no T occurs there; on the right none occurs.
 -- A fact may have T anywhere.
-abbrev pub entry_placed : List Concept → Entry → Bool
-entry_placed cs (entry.Inclusion c d) = (is_typical (of cs c) || plain (of cs c)) && plain (of cs d)
-entry_placed cs (entry.Fact x c) = true
-entry_placed cs (entry.RoleFact r x y) = true
-entry_placed cs entry.Absent = true
+abbrev pub entry_typicality_allowed : List Concept → Entry → Bool
+entry_typicality_allowed cs (entry.Inclusion c d) = (is_typical (of cs c) || plain (of cs c)) && plain (of cs d)
+entry_typicality_allowed cs (entry.Fact x c) = true
+entry_typicality_allowed cs (entry.RoleFact r x y) = true
+entry_typicality_allowed cs entry.Absent = true
 
 -- node number i: a node operand is a lower number
 abbrev pub node_well_formed : ℕ → Node → Bool
-node_well_formed i n = node_known n && (node_within_limits n && node_operands_below i n)
+node_well_formed i n = is_node n && (node_within_limits n && node_operands_below i n)
 
 -- an entry of a book with n nodes
 abbrev pub entry_well_formed : ℕ → Entry → Bool
-entry_well_formed n e = entry_known e && (entry_within_limits e && entry_operands_below n e)
+entry_well_formed n e = is_entry e && (entry_within_limits e && entry_operands_below n e)
 
 pub record WellFormed (bk : Book) : Type 0 where
   pub few_nodes : length bk.nodes ≤ 512
-  pub few_lines : length bk.lines ≤ 256
+  pub few_entries : length bk.entries ≤ 256
   pub nodes : (i : ℕ) → i < length bk.nodes → node_well_formed i (node_at bk i) ≡ true
-  pub entries : AllByRecursion (λ l. entry_well_formed (length bk.nodes) l.entry ≡ true) bk.lines
+  pub entries : AllByRecursion (λ l. entry_well_formed (length bk.nodes) l.entry ≡ true) bk.entries
 
 pub record TypicalityInPlace (bk : Book) : Type 0 where
-  pub nodes : (i : ℕ) → i < length bk.nodes → node_placed (concepts bk.nodes) (node_at bk i) ≡ true
-  pub entries : AllByRecursion (λ l. entry_placed (concepts bk.nodes) l.entry ≡ true) bk.lines
+  pub nodes : (i : ℕ) → i < length bk.nodes → node_typicality_allowed (concepts bk.nodes) (node_at bk i) ≡ true
+  pub entries : AllByRecursion (λ l. entry_typicality_allowed (concepts bk.nodes) l.entry ≡ true) bk.entries
 
 pub record Lawful (bk : Book) : Type 0 where
   pub well_formed : WellFormed bk

@@ -1,6 +1,6 @@
 -- How large a closed tableau is.
 -- AfterEachStep: what holds of each branch that a step leaves. Lengths: of the three working lists.
--- Fits: the lists are long enough. WithinLimits: not too many steps and labels.
+-- FitsLists: the lists are long enough. WithinLimits: not too many steps and labels.
 -- LongerListsFit: what fits lists fits longer ones.
 -- Assumes nothing.
 use Rattle.std.specs.Prelude.{ℕ, suc, ◌≤◌, length}
@@ -24,14 +24,14 @@ pub record Lengths : Type 0 where
   pub splits : ℕ
 
 -- the lists take the branch and so many pending splits
-pub record Takes (ls : Lengths) (pending : ℕ) (br : Branch) : Type 0 where
+pub record LongEnough (ls : Lengths) (pending : ℕ) (br : Branch) : Type 0 where
   pub constraints : length br.constraints ≤ ls.constraints
   pub edges : length br.edges ≤ ls.edges
   pub splits : pending ≤ ls.splits
 
 -- no step leaves more constraints, edges or pending splits than the lists take
-abbrev pub Fits : {bk : Book} {br : Branch} → Lengths → Closed bk br → Type 0
-Fits ls t = AfterEachStep (Takes ls) 0 t
+abbrev pub FitsLists : {bk : Book} {br : Branch} → Lengths → Closed bk br → Type 0
+FitsLists ls t = AfterEachStep (LongEnough ls) 0 t
 
 -- labels are the numbers below next, so none is above 255
 abbrev pub FewLabels : ℕ → Branch → Type 0
@@ -50,4 +50,4 @@ pub record NoShorter (ls ms : Lengths) : Type 0 where
 
 -- a closed tableau that fits lists fits longer ones
 abbrev pub LongerListsFit : Type 0
-LongerListsFit = (bk : Book) (br : Branch) (t : Closed bk br) (ls ms : Lengths) → NoShorter ls ms → Fits ls t → Fits ms t
+LongerListsFit = (bk : Book) (br : Branch) (t : Closed bk br) (ls ms : Lengths) → NoShorter ls ms → FitsLists ls t → FitsLists ms t

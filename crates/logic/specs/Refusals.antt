@@ -12,7 +12,7 @@ use Rattle.logic.specs.declared.records.RawEntry.{RawEntry}
 use Rattle.logic.specs.Written.{node_a, node_b, node_of, entry_a, entry_b, entry_c, entry_of, WritesNode, WritesEntry}
 use Rattle.logic.specs.Concepts.{concepts}
 use Rattle.logic.specs.Books.{Book, with_node, with_entry}
-use Rattle.logic.specs.Lawful.{Lawful, node_known, node_within_limits, node_operands_below, node_placed, entry_known, entry_within_limits, entry_operands_below, entry_placed}
+use Rattle.logic.specs.Lawful.{Lawful, is_node, node_within_limits, node_operands_below, node_typicality_allowed, is_entry, entry_within_limits, entry_operands_below, entry_typicality_allowed}
 
 -- the number of the first test that fails: 2 unknown kind, 3 over its limit or unused operand not 0,
 -- 4 operand not there, 5 T out of place, 0 where none fails
@@ -27,7 +27,7 @@ node_unused_zero raw = raw.a == node_a (node_of raw) && raw.b == node_b (node_of
 -- why a node does not fit a book with room for it
 abbrev pub node_unfit : Book → RawNode → ℕ
 node_unfit bk raw =
-    first_unfit (node_known (node_of raw)) (node_within_limits (node_of raw) && node_unused_zero raw) (node_operands_below (length bk.nodes) (node_of raw)) (node_placed (concepts bk.nodes) (node_of raw))
+    first_unfit (is_node (node_of raw)) (node_within_limits (node_of raw) && node_unused_zero raw) (node_operands_below (length bk.nodes) (node_of raw)) (node_typicality_allowed (concepts bk.nodes) (node_of raw))
 
 -- 1 at the limit, and otherwise why the record does not fit
 abbrev pub unless_full : ℕ → ℕ → ℕ → ℕ
@@ -43,10 +43,10 @@ entry_unused_zero raw =
 -- the same of an entry
 abbrev pub entry_unfit : Book → RawEntry → ℕ
 entry_unfit bk raw =
-    first_unfit (entry_known (entry_of raw)) (entry_within_limits (entry_of raw) && entry_unused_zero raw) (entry_operands_below (length bk.nodes) (entry_of raw)) (entry_placed (concepts bk.nodes) (entry_of raw))
+    first_unfit (is_entry (entry_of raw)) (entry_within_limits (entry_of raw) && entry_unused_zero raw) (entry_operands_below (length bk.nodes) (entry_of raw)) (entry_typicality_allowed (concepts bk.nodes) (entry_of raw))
 
 abbrev pub entry_refusal : Book → RawEntry → ℕ
-entry_refusal bk raw = unless_full 256 (length bk.lines) (entry_unfit bk raw)
+entry_refusal bk raw = unless_full 256 (length bk.entries) (entry_unfit bk raw)
 
 -- the offer writes a node with which the book is lawful
 abbrev pub NodeFits : Book → RawNode → Type 0

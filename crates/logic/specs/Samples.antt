@@ -1,19 +1,19 @@
 -- The sample book and its model, and the same book with a fact that leaves it without one.
--- sample, refuted: the two books. refutation: the steps of a closed tableau over the second. wrong_steps: those of
--- a hand-in over the first that is wrong. SampleModel: the model of the first.
+-- sample, unsatisfiable_sample: the two books. refutation: the steps of a closed tableau over the second.
+-- wrong_steps: those of a hand-in over the first that is wrong. SampleModel: the model of the first.
 -- Assumes nothing.
 use Rattle.std.specs.Prelude.{◌≡◌, ℕ, true, false, ◌&&◌, List, [], ◌∷◌, ◌==◌}
 use Rattle.logic.specs.declared.records.Node.TheVariants.{Name, Not, And, Typical}
 use Rattle.logic.specs.declared.records.Entry.{Entry}
 use Rattle.logic.specs.declared.records.Entry.TheVariants.{Inclusion, Fact}
-use Rattle.logic.specs.declared.records.Line.{Line}
+use Rattle.logic.specs.declared.records.StoredEntry.{StoredEntry}
 use Rattle.logic.specs.declared.tableau.Step.{Step}
 use Rattle.logic.specs.Books.{Book, with_entry}
 use Rattle.logic.specs.Models.{Model}
 use Rattle.logic.specs.Rules.{step}
 
 -- a live entry
-abbrev live : Entry → Line
+abbrev live : Entry → StoredEntry
 live e = record { entry = e; live = true }
 
 -- Names 0, 1 and 2 are release, yanked and paired. Node 3 is T(release), 4 release and yanked,
@@ -23,12 +23,12 @@ abbrev pub sample : Book
 sample =
     record {
       nodes = Name 0 ∷ Name 1 ∷ Name 2 ∷ Typical 0 ∷ And 0 1 ∷ Typical 4 ∷ Not 2 ∷ [];
-      lines = live (Inclusion 3 2) ∷ live (Inclusion 5 6) ∷ live (Fact 0 5) ∷ [];
+      entries = live (Inclusion 3 2) ∷ live (Inclusion 5 6) ∷ live (Fact 0 5) ∷ [];
     }
 
 -- the same, and individual 0 is a typical release too
-abbrev pub refuted : Book
-refuted = with_entry sample (Fact 0 3)
+abbrev pub unsatisfiable_sample : Book
+unsatisfiable_sample = with_entry sample (Fact 0 3)
 
 -- the steps that refute it
 abbrev pub refutation : List Step

@@ -4,12 +4,12 @@
 use Rattle.std.specs.Prelude.{◌≡◌, ℕ, ◌<◌, true}
 use Rattle.logic.specs.declared.records.Entry.{Entry}
 use Rattle.logic.specs.declared.records.Entry.TheVariants.{Inclusion, Fact, RoleFact, Absent}
-use Rattle.logic.specs.Books.{Book, line_at, concept}
+use Rattle.logic.specs.Books.{Book, stored_at, concept}
 use Rattle.logic.specs.Models.{Model, Sat}
 
 -- entry i is there and live
 abbrev pub Live : Book → ℕ → Entry → Type 0
-Live bk i e = line_at bk i ≡ record { entry = e; live = true }
+Live bk i e = stored_at bk i ≡ record { entry = e; live = true }
 
 -- the entry is true in the model
 abbrev pub HoldsIn : Model → Book → Entry → Type 0

@@ -5,7 +5,7 @@
 use Rattle.std.specs.Prelude.{◌≡◌, ℕ, true, List}
 use Rattle.logic.specs.declared.records.Entry.{Entry}
 use Rattle.logic.specs.declared.tableau.Step.{Step}
-use Rattle.logic.specs.Books.{Book, line_at}
+use Rattle.logic.specs.Books.{Book, stored_at}
 use Rattle.logic.specs.Lawful.{WellFormed}
 use Rattle.logic.specs.Models.{Model}
 use Rattle.logic.specs.Satisfaction.{Live, HoldsIn, Satisfies}
@@ -14,7 +14,7 @@ use Rattle.logic.specs.Tableaux.{Closed, writing, names}
 
 -- each entry that the steps name is true in the model
 abbrev pub NamedTrue : Model → Book → List Step → Type 0
-NamedTrue m bk ss = (i : ℕ) → names ss i ≡ true → HoldsIn m bk (line_at bk i).entry
+NamedTrue m bk ss = (i : ℕ) → names ss i ≡ true → HoldsIn m bk (stored_at bk i).entry
 
 -- Where a closed tableau stands over the starting branch of a well-formed book, no model, of any
 -- size, makes all the entries true that it names.

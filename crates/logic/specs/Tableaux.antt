@@ -1,6 +1,6 @@
 -- Closed tableaux as trees, how they are written, and which entries they name.
 -- Closed: a closed tableau over a branch. writing: its steps. names: whether some step names an entry.
--- used: how many different entries the steps name.
+-- named_count: how many different entries the steps name.
 -- Assumes nothing.
 use Rattle.std.specs.Prelude.{ℕ, zero, suc, ◌+◌, Bool, false, cond, ◌&&◌, ◌||◌, List, [], ◌∷◌, ◌++◌, ◌==◌}
 use Rattle.logic.specs.declared.tableau.Step.{Step}
@@ -32,5 +32,5 @@ named_below zero ss = 0
 named_below (suc n) ss = cond (names ss n) 1 0 + named_below n ss
 
 -- how many different entries are named; an entry's number is below 256
-abbrev pub used : List Step → ℕ
-used ss = named_below 256 ss
+abbrev pub named_count : List Step → ℕ
+named_count ss = named_below 256 ss

@@ -31,13 +31,13 @@ pub enum Entry {
 // An entry in its place, live until it is struck. A mark beside the entry, since a case for live and one for struck
 // would hold the same.
 #[derive(Clone, Copy)]
-pub struct Line {
+pub struct StoredEntry {
     pub entry: Entry,
     pub live: bool,
 }
 
-// What stands past the last line of a book.
-pub const NO_LINE: Line = Line {
+// What stands past the last entry of a book.
+pub const NO_STORED_ENTRY: StoredEntry = StoredEntry {
     entry: Entry::Absent,
     live: false,
 };

@@ -8,7 +8,7 @@ use Rattle.orders.proofs.MaskBits.{has-zero}
 use Rattle.models.specs.declared.fields.Tables.{Tables}
 use Rattle.models.specs.Interpretations.{Interpretation}
 use Rattle.models.specs.Tables.{by_tables}
-use Rattle.models.specs.Fields.{Field, size, name, role, individual, first_byte, Good, LedWithin, FirstWithout, FirstBad, LowestBad}
+use Rattle.models.specs.Fields.{Field, size, name, role, individual, first_byte, Good, SuccessorsWithin, FirstWithout, FirstBad, LowestBad}
 
 -- the empty set is within every size
 pub empty_within : (n set : ℕ) → set ≡ 0 → Within n set
@@ -28,7 +28,7 @@ module _ (t : Tables) (sized : Good (by_tables t) size) where
   no_role : (r x : ℕ) → get_or (get_or t.roles r []) x 0 ≡ 0 → Good I (role r x)
   no_role r x e = (empty_within t.size _ e, λ _. e)
 
-  pub row_good : (r : ℕ) → FirstWithout (λ x. LedWithin t.size x (get_or (get_or t.roles r []) x 0)) 32 None → ((x : ℕ) → 32 ≤ x → get_or (get_or t.roles r []) x 0 ≡ 0) → (x : ℕ) → Good I (role r x)
+  pub row_good : (r : ℕ) → FirstWithout (λ x. SuccessorsWithin t.size x (get_or (get_or t.roles r []) x 0)) 32 None → ((x : ℕ) → 32 ≤ x → get_or (get_or t.roles r []) x 0 ≡ 0) → (x : ℕ) → Good I (role r x)
   row_good r found past x = elim (cases_lt x 32) [
     | inl l ↦ found x l
     | inr l ↦ no_role r x (past x l)
@@ -55,7 +55,7 @@ module _ (t : Tables) (sized : Good (by_tables t) size) where
       before (role r x) h = absurd (omega (arith, found.0))
       before (individual b) h = absurd (omega (arith, found.0))
 
-  pub bad_role : (r x : ℕ) → r < 16 → length t.names ≡ 64 → FirstWithout (λ a. Good I (name a)) 64 None → ((q : ℕ) → q < r → (y : ℕ) → Good I (role q y)) → FirstWithout (λ x. LedWithin t.size x (get_or (get_or t.roles r []) x 0)) 32 (Some x) → LowestBad I (257 + 4 * (32 * r + x))
+  pub bad_role : (r x : ℕ) → r < 16 → length t.names ≡ 64 → FirstWithout (λ a. Good I (name a)) 64 None → ((q : ℕ) → q < r → (y : ℕ) → Good I (role q y)) → FirstWithout (λ x. SuccessorsWithin t.size x (get_or (get_or t.roles r []) x 0)) 32 (Some x) → LowestBad I (257 + 4 * (32 * r + x))
   bad_role r x few count named above found = record { field = role r x; stands = refl; bad = found.1; lowest = before }
     where
       before : (f : Field) → first_byte f < 257 + 4 * (32 * r + x) → Good I f
@@ -71,17 +71,17 @@ module _ (t : Tables) (sized : Good (by_tables t) size) where
 
   -- after the names and the roles, an individual or none is bad
   pub bad_individual : (found r : Option ℕ) → length t.names ≡ 64 → length t.roles ≡ 16 → length t.individuals ≡ 32 → FirstWithout (λ a. Good I (name a)) 64 None → ((r : ℕ) → r < 16 → (x : ℕ) → Good I (role r x)) → FirstWithout (λ a. Good I (individual a)) 32 found → MatchOption found (r ≡ None) (λ a. r ≡ Some (2305 + a)) → FirstBad I r
-  bad_individual None r names roles individuals named led placed e = subst (FirstBad I) (sym e) every
+  bad_individual None r names roles individuals named successors placed e = subst (FirstBad I) (sym e) every
     where
       every : FirstBad I None
       every size = sized
       every (name a) = every_name names named a
-      every (role r x) = every_role roles led r x
+      every (role r x) = every_role roles successors r x
       every (individual a) = every_individual individuals placed a
-  bad_individual (Some a) r names roles individuals named led placed e = subst (FirstBad I) (sym e) (record { field = individual a; stands = refl; bad = placed.1; lowest = before })
+  bad_individual (Some a) r names roles individuals named successors placed e = subst (FirstBad I) (sym e) (record { field = individual a; stands = refl; bad = placed.1; lowest = before })
     where
       before : (f : Field) → first_byte f < 2305 + a → Good I f
       before size h = sized
       before (name b) h = every_name names named b
-      before (role r x) h = every_role roles led r x
+      before (role r x) h = every_role roles successors r x
       before (individual b) h = placed.2 b (omega arith)

@@ -16,7 +16,7 @@ use Rattle.orders.specs.Masks.{has, Preference}
 use Rattle.orders.proofs.MaskBits.{has-zero}
 use Rattle.models.specs.Interpretations.{Interpretation}
 use Rattle.models.specs.Fields.{name, role, individual}
-use Rattle.models.specs.Meanings.{Fits, meant}
+use Rattle.models.specs.Meanings.{Compatible, model_of}
 use Rattle.models.specs.Extensions.{Extension, HaveSets, SetOfNode}
 use Rattle.models.specs.NodeMasks.{MaskOfNode, TrueByMasks}
 
@@ -29,7 +29,7 @@ empty_set m = no_element m 0 has-zero
 
 pub set_of_mask : (i : Interpretation) (o : Preference) (list : List ℕ) (n : Node) (mask : ℕ) → MaskOfNode i o list n mask → SetOfNode i o list n mask
 set_of_mask i o list Top mask h f cs s x = Decides-like (has mask x) (λ l. (l, tt)) (λ p. p.0) (Decides-at _ _ (h x) (Decides-ltb x i.size))
-set_of_mask i o list Bottom mask h f cs s x = no_element (meant i o f) mask h x
+set_of_mask i o list Bottom mask h f cs s x = no_element (model_of i o f) mask h x
 set_of_mask i o list (Name a) mask h f cs s x = Decides-at _ _ (h x) (λ t. (f.valid (name a) x t, t), λ p. p.1)
 set_of_mask i o list (Not c) mask h f cs s x =
     Decides-like (has mask x) (λ p. (p.0, λ t. p.1 (p.0, t))) (λ p. (p.0, λ q. p.1 q.1))
@@ -55,17 +55,17 @@ set_of_mask i o list (Exists r c) mask h f cs s x =
     (h x)
 set_of_mask i o list (Typical c) mask h f cs s x =
     Decides-like (has mask x)
-    (λ b. (omega (arith, b.there, f.sized), (((s c x).0 b.member).1, λ y l t k. b.none_better y t ((s c y).1 (l, k)))))
+    (λ b. (omega (arith, b.within, f.sized), (((s c x).0 b.member).1, λ y l t k. b.none_better y t ((s c y).1 (l, k)))))
     (λ p. record {
-      there = omega (arith, p.0, f.sized);
+      within = omega (arith, p.0, f.sized);
       member = (s c x).1 (p.0, p.1.0);
       none_better = λ y t k. let u = (s c y).0 k in p.1.1 y u.0 t u.1;
     })
     (h x)
-set_of_mask i o list Absent mask h f cs s x = no_element (meant i o f) mask h x
+set_of_mask i o list Absent mask h f cs s x = no_element (model_of i o f) mask h x
 
 -- an entry is true by the masks exactly when it is true in the model
-pub truth_of_masks : (i : Interpretation) (o : Preference) (f : Fits i o) (bk : Book) (list : List ℕ) → HaveSets (meant i o f) (concepts bk.nodes) list → (e : Entry) → (TrueByMasks i list e → HoldsIn (meant i o f) bk e) × (HoldsIn (meant i o f) bk e → TrueByMasks i list e)
+pub truth_of_masks : (i : Interpretation) (o : Preference) (f : Compatible i o) (bk : Book) (list : List ℕ) → HaveSets (model_of i o f) (concepts bk.nodes) list → (e : Entry) → (TrueByMasks i list e → HoldsIn (model_of i o f) bk e) × (HoldsIn (model_of i o f) bk e → TrueByMasks i list e)
 truth_of_masks i o f bk list s (entry.Inclusion c d) = (
   λ all x l t. ((s d x).0 (all x ((s c x).1 (l, t)))).1,
   λ all x t. let u = (s c x).0 t in (s d x).1 (u.0, all x u.0 u.1),

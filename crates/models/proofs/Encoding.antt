@@ -4,18 +4,18 @@ use Rattle.std.proofs.lemmas.Bool.{cases_lt, cases_Bool, and_parts, and_from, lt
 use Rattle.logic.specs.Models.{Model}
 use Rattle.orders.specs.Bytes.{byte, word}
 use Rattle.orders.specs.Masks.{has, mask_of, Within}
-use Rattle.models.specs.Interpretations.{said}
+use Rattle.models.specs.Interpretations.{interpretation_of}
 use Rattle.models.specs.Fields.{Field, size, name, role, individual, Good}
 use Rattle.models.proofs.BadFields.{empty_within}
 use Rattle.models.proofs.ByteTables.{table_length, table_at, table_small, digit_small, word_of}
 use Rattle.models.proofs.ModelMasks.{mask_small, mask_within, mask_at}
-use Rattle.models.specs.Encodings.{digit, name_mask, led_mask, model_mask, model_byte, model_bytes, Encoded}
+use Rattle.models.specs.Encodings.{byte_of, name_mask, successor_mask, model_mask, model_byte, model_bytes, EncodedModel}
 
 module _ (m : Model) (few : m.size ≤ 32) where
-  led_there : (r x : ℕ) → x < m.size → led_mask m r x ≡ mask_of (m.roles r x) m.size
+  led_there : (r x : ℕ) → x < m.size → successor_mask m r x ≡ mask_of (m.roles r x) m.size
   led_there r x h = cond-true _ _ _ (lt-ltb x m.size h)
 
-  led_absent : (r x : ℕ) → m.size ≤ x → led_mask m r x ≡ 0
+  led_absent : (r x : ℕ) → m.size ≤ x → successor_mask m r x ≡ 0
   led_absent r x h = cond-false _ _ _ (le-ltb x m.size h)
 
   model_mask_small : (i : ℕ) → model_mask m i < 2 ^ 32
@@ -24,33 +24,33 @@ module _ (m : Model) (few : m.size ≤ 32) where
     | inr l ↦ subst (λ w. w < 2 ^ 32) (sym (cond-false _ _ _ (le-ltb i 64 l))) (led_small ((i - 64) / 32) ((i - 64) % 32))
   ]
     where
-      led_small : (r x : ℕ) → led_mask m r x < 2 ^ 32
+      led_small : (r x : ℕ) → successor_mask m r x < 2 ^ 32
       led_small r x = elim (cases_lt x m.size) [
         | inl l ↦ subst (λ w. w < 2 ^ 32) (sym (led_there r x l)) (mask_small m few (m.roles r x))
         | inr l ↦ subst (λ w. w < 2 ^ 32) (sym (led_absent r x l)) (omega arith)
       ]
 
-  mask_byte : (k i j : ℕ) → k ≡ 1 + 4 * i + j → i < 576 → j < 4 → byte (model_bytes m) k ≡ digit (model_mask m i) j
+  mask_byte : (k i j : ℕ) → k ≡ 1 + 4 * i + j → i < 576 → j < 4 → byte (model_bytes m) k ≡ byte_of (model_mask m i) j
   mask_byte k i j e h l =
       let quotient : (k - 1) / 4 ≡ i = omega arith in
       let rest : (k - 1) % 4 ≡ j = omega arith in
       table_at 2337 (model_byte m) k (omega arith)
       ∙ cond-false _ _ _ (ne_eqb k 0 (λ z. omega arith))
       ∙ cond-true _ _ _ (lt-ltb k 2305 (omega arith))
-      ∙ ap (λ q. digit (model_mask m q) ((k - 1) % 4)) quotient ∙ ap (digit (model_mask m i)) rest
+      ∙ ap (λ q. byte_of (model_mask m q) ((k - 1) % 4)) quotient ∙ ap (byte_of (model_mask m i)) rest
 
   mask_word : (i : ℕ) → i < 576 → word (model_bytes m) (1 + 4 * i) ≡ model_mask m i
   mask_word i h =
       word_of (model_bytes m) (1 + 4 * i) (model_mask m i) (model_mask_small i)
       (mask_byte _ i 0 (omega arith) h (omega arith)) (mask_byte _ i 1 refl h (omega arith)) (mask_byte _ i 2 refl h (omega arith)) (mask_byte _ i 3 refl h (omega arith))
 
-  said_size : (said (model_bytes m)).size ≡ m.size
+  said_size : (interpretation_of (model_bytes m)).size ≡ m.size
   said_size = table_at 2337 (model_byte m) 0 (omega arith)
 
-  said_name : (a : ℕ) → a < 64 → (said (model_bytes m)).names a ≡ name_mask m a
+  said_name : (a : ℕ) → a < 64 → (interpretation_of (model_bytes m)).names a ≡ name_mask m a
   said_name a h = cond-true _ _ _ (lt-ltb a 64 h) ∙ mask_word a (omega arith) ∙ cond-true _ _ _ (lt-ltb a 64 h)
 
-  said_led : (r x : ℕ) → r < 16 → x < 32 → (said (model_bytes m)).led r x ≡ led_mask m r x
+  said_led : (r x : ℕ) → r < 16 → x < 32 → (interpretation_of (model_bytes m)).successors r x ≡ successor_mask m r x
   said_led r x h l =
       let i = 64 + (32 * r + x) in
       let at : 257 + 4 * (32 * r + x) ≡ 1 + 4 * i = omega arith in
@@ -59,9 +59,9 @@ module _ (m : Model) (few : m.size ≤ 32) where
       cond-true _ _ _ (and_from _ _ (lt-ltb r 16 h) (lt-ltb x 32 l))
       ∙ ap (word (model_bytes m)) at ∙ mask_word i (omega arith)
       ∙ cond-false _ _ _ (le-ltb i 64 (omega arith))
-      ∙ ap (λ q. led_mask m q ((i - 64) % 32)) by ∙ ap (led_mask m r) from
+      ∙ ap (λ q. successor_mask m q ((i - 64) % 32)) by ∙ ap (successor_mask m r) from
 
-  said_individual : (a : ℕ) → a < 32 → (said (model_bytes m)).individual a ≡ m.individual a
+  said_individual : (a : ℕ) → a < 32 → (interpretation_of (model_bytes m)).individual a ≡ m.individual a
   said_individual a h =
       let e : 2305 + a - 2305 ≡ a = omega arith in
       cond-true _ _ _ (lt-ltb a 32 h)
@@ -71,30 +71,30 @@ module _ (m : Model) (few : m.size ≤ 32) where
       ∙ ap m.individual e
 
   -- what is within the model's size is within the size that the bytes say
-  within_said : (set mask : ℕ) → set ≡ mask → Within m.size mask → Within (said (model_bytes m)).size set
+  within_said : (set mask : ℕ) → set ≡ mask → Within m.size mask → Within (interpretation_of (model_bytes m)).size set
   within_said set mask e h y t = subst (λ n. y < n) (sym said_size) (h y (sym (ap (λ s. has s y) e) ∙ t))
 
-  led_within : (r x : ℕ) → Within m.size (led_mask m r x)
-  led_within r x = elim (cases_lt x m.size) [
+  successors_within : (r x : ℕ) → Within m.size (successor_mask m r x)
+  successors_within r x = elim (cases_lt x m.size) [
     | inl l ↦ subst (Within m.size) (sym (led_there r x l)) (mask_within m few (m.roles r x))
     | inr l ↦ empty_within m.size _ (led_absent r x l)
   ]
 
   -- past the roles, and the elements that there can be, nothing is said
-  led_said : (r x : ℕ) → ((said (model_bytes m)).led r x ≡ led_mask m r x) ⊎ ((said (model_bytes m)).led r x ≡ 0)
+  led_said : (r x : ℕ) → ((interpretation_of (model_bytes m)).successors r x ≡ successor_mask m r x) ⊎ ((interpretation_of (model_bytes m)).successors r x ≡ 0)
   led_said r x = elim (cases_Bool (ltb r 16 && ltb x 32)) [
     | inl h ↦ (let p = and_parts _ _ h in inl (said_led r x (ltb-true r 16 p.0) (ltb-true x 32 p.1)))
     | inr h ↦ inr (cond-false _ _ _ h)
   ]
 
-  good : (f : Field) → Good (said (model_bytes m)) f
+  good : (f : Field) → Good (interpretation_of (model_bytes m)) f
   good size = (omega (arith, said_size, m.inhabited), omega (arith, said_size, few))
   good (name a) = elim (cases_lt a 64) [
     | inl l ↦ within_said _ _ (said_name a l) (mask_within m few (m.atoms a))
     | inr l ↦ empty_within _ _ (cond-false _ _ _ (le-ltb a 64 l))
   ]
   good (role r x) = elim (led_said r x) [
-    | inl e ↦ (within_said _ _ e (led_within r x), λ h. e ∙ led_absent r x (subst (λ n. n ≤ x) said_size h))
+    | inl e ↦ (within_said _ _ e (successors_within r x), λ h. e ∙ led_absent r x (subst (λ n. n ≤ x) said_size h))
     | inr e ↦ (empty_within _ _ e, λ h. e)
   ]
   good (individual a) = elim (cases_lt a 32) [
@@ -108,7 +108,7 @@ module _ (m : Model) (few : m.size ≤ 32) where
       (λ _. digit_small (model_mask m ((k - 1) / 4)) ((k - 1) % 4))
       (λ l. omega (arith, m.individual_within (k - 2305) (omega arith), few)))
 
-  pub encoded : Encoded m (model_bytes m)
+  pub encoded : EncodedModel m (model_bytes m)
   encoded = record {
     bytes = table_small 2337 (model_byte m) model_small;
     whole = table_length 2337 (model_byte m);

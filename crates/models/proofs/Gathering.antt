@@ -6,8 +6,8 @@ use Rattle.orders.specs.Masks.{has, mask_of, meeting, Preference, Strict}
 use Rattle.orders.proofs.MaskBits.{mask_has, meeting_decides, never}
 use Rattle.models.specs.Interpretations.{Interpretation}
 use Rattle.models.specs.Fields.{role, Valid}
-use Rattle.models.specs.Extensions.{Complement, Leading, BestOf}
-use Rattle.models.specs.NodeMasks.{LeadingOnly}
+use Rattle.models.specs.Extensions.{Complement, SomeSuccessorIn, BestOf}
+use Rattle.models.specs.NodeMasks.{AllSuccessorsIn}
 
 -- an element is in the mask exactly where it is below the size and has the property
 gathered_decides : {Q : Type 0} (p : ℕ → Bool) (n mask x : ℕ) → n ≤ 32 → mask ≡ mask_of p (min n 32) → Decides (p x) Q → Decides (has mask x) ((x < n) × Q)
@@ -15,11 +15,11 @@ gathered_decides p n mask x few e d =
     let cut : min n 32 ≡ n = omega arith in
     Decides-at _ _ (ap (λ m. has m x) e ∙ ap (λ k. has (mask_of p k) x) cut ∙ mask_has p n x) (Decides-and _ _ (Decides-ltb x n) d)
 
-pub leading_means : (i : Interpretation) → i.size ≤ 32 → (r set mask : ℕ) → mask ≡ mask_of (λ x. meeting (i.led r x) set) (min i.size 32) → Leading i r set mask
-leading_means i few r set mask e x = gathered_decides (λ x. meeting (i.led r x) set) i.size mask x few e (meeting_decides (i.led r x) set)
+pub leading_means : (i : Interpretation) → i.size ≤ 32 → (r set mask : ℕ) → mask ≡ mask_of (λ x. meeting (i.successors r x) set) (min i.size 32) → SomeSuccessorIn i r set mask
+leading_means i few r set mask e x = gathered_decides (λ x. meeting (i.successors r x) set) i.size mask x few e (meeting_decides (i.successors r x) set)
 
 -- what is not in the elements that lead out of a set are those that lead only into it
-pub only_means : (i : Interpretation) → Valid i → (r set out some mask : ℕ) → Complement i set out → Leading i r out some → Complement i some mask → LeadingOnly i r set mask
+pub only_means : (i : Interpretation) → Valid i → (r set out some mask : ℕ) → Complement i set out → SomeSuccessorIn i r out some → Complement i some mask → AllSuccessorsIn i r set mask
 only_means i valid r set out some mask outside leads rest x =
     let n = i.size in
     Decides-like (has mask x)
@@ -42,6 +42,6 @@ best_means o s set mask e x =
       λ h. and_from _ _ h.0 (not_from_false _ (never _ (λ t. let w = better.0 t in h.1 w.0 w.1 w.2))),
     ) in
     Decides-like (has mask x)
-    (λ h. record { there = h.0; member = h.1.0; none_better = h.1.1 })
-    (λ b. (b.there, (b.member, b.none_better)))
+    (λ h. record { within = h.0; member = h.1.0; none_better = h.1.1 })
+    (λ b. (b.within, (b.member, b.none_better)))
     (gathered_decides {Q = Alone} (λ x. has set x && not (meeting (o.better x) set)) o.size mask x s.few e alone)

@@ -1,5 +1,5 @@
 -- Every model of at most 32 elements in bytes, and its "better" in pairs.
--- model_bytes, pair_bytes: the bytes. MeansBetter: an order is the model's "better". Encoded: bytes mean
+-- model_bytes, pair_bytes: the bytes. MeansBetter: an order is the model's "better". EncodedModel: bytes mean
 -- a model with every such order. ModelsEncoded: they do, and the pairs are such an order.
 -- Assumes nothing.
 use Rattle.std.specs.Prelude.{◌≡◌, ℕ, zero, suc, ◌-◌, ◌*◌, ◌/◌, ◌%◌, ◌<◌, ◌≤◌, cond, List, [], ◌∷◌, ◌==◌, nat_lt}
@@ -7,29 +7,29 @@ use Rattle.std.specs.List.{AllByRecursion}
 use Rattle.logic.specs.Models.{Model}
 use Rattle.logic.specs.Likeness.{Alike}
 use Rattle.orders.specs.Masks.{has, mask_of, Preference}
-use Rattle.orders.specs.PairLaws.{paired, PairsLawful}
-use Rattle.models.specs.Interpretations.{said}
+use Rattle.orders.specs.PairLaws.{order_of_pairs, PairsLawful}
+use Rattle.models.specs.Interpretations.{interpretation_of}
 use Rattle.models.specs.Fields.{Valid}
-use Rattle.models.specs.Meanings.{Fits, meant}
-use Rattle.models.specs.Answers.{Whole}
+use Rattle.models.specs.Meanings.{Compatible, model_of}
+use Rattle.models.specs.Answers.{HasModelLength}
 
 -- the first n values of f
-unfoldable pub table : ℕ → (ℕ → ℕ) → List ℕ
-table zero f = []
-table (suc n) f = f zero ∷ table n (λ i. f (suc i))
+unfoldable pub first_values : ℕ → (ℕ → ℕ) → List ℕ
+first_values zero f = []
+first_values (suc n) f = f zero ∷ first_values n (λ i. f (suc i))
 
 -- byte j of a number, low byte first
-abbrev pub digit : ℕ → ℕ → ℕ
-digit w zero = w % 256
-digit w (suc j) = digit (w / 256) j
+abbrev pub byte_of : ℕ → ℕ → ℕ
+byte_of w zero = w % 256
+byte_of w (suc j) = byte_of (w / 256) j
 
 -- the set of a name
 abbrev pub name_mask : Model → ℕ → ℕ
 name_mask m a = mask_of (m.atoms a) m.size
 
 -- the set to which a role leads from an element; empty where there is no such element
-abbrev pub led_mask : Model → ℕ → ℕ → ℕ
-led_mask m r x = cond (nat_lt x m.size) (mask_of (m.roles r x) m.size) 0
+abbrev pub successor_mask : Model → ℕ → ℕ → ℕ
+successor_mask m r x = cond (nat_lt x m.size) (mask_of (m.roles r x) m.size) 0
 
 -- the set of the elements that are better than x
 abbrev pub better_mask : Model → ℕ → ℕ
@@ -37,19 +37,19 @@ better_mask m x = mask_of (λ y. m.better y x) m.size
 
 -- mask i of the bytes: 64 are those of the names, and then there are 32 for each role
 abbrev pub model_mask : Model → ℕ → ℕ
-model_mask m i = cond (nat_lt i 64) (name_mask m i) (led_mask m ((i - 64) / 32) ((i - 64) % 32))
+model_mask m i = cond (nat_lt i 64) (name_mask m i) (successor_mask m ((i - 64) / 32) ((i - 64) % 32))
 
 -- byte k: the size, a byte of a mask, or the element of an individual
 abbrev pub model_byte : Model → ℕ → ℕ
-model_byte m k = cond (k == 0) m.size (cond (nat_lt k 2305) (digit (model_mask m ((k - 1) / 4)) ((k - 1) % 4)) (m.individual (k - 2305)))
+model_byte m k = cond (k == 0) m.size (cond (nat_lt k 2305) (byte_of (model_mask m ((k - 1) / 4)) ((k - 1) % 4)) (m.individual (k - 2305)))
 
 -- the model as an interpretation
 abbrev pub model_bytes : Model → List ℕ
-model_bytes m = table 2337 (model_byte m)
+model_bytes m = first_values 2337 (model_byte m)
 
 -- its "better" as pairs
 abbrev pub pair_bytes : Model → List ℕ
-pair_bytes m = table (4 * m.size) (λ k. digit (better_mask m (k / 4)) (k % 4))
+pair_bytes m = first_values (4 * m.size) (λ k. byte_of (better_mask m (k / 4)) (k % 4))
 
 -- the order has the model's elements, and is its "better"
 pub record MeansBetter (m : Model) (o : Preference) : Type 0 where
@@ -57,19 +57,19 @@ pub record MeansBetter (m : Model) (o : Preference) : Type 0 where
   pub better : (x y : ℕ) → x < m.size → y < m.size → has (o.better x) y ≡ m.better y x
 
 -- bytes that are free of faults, and that mean the model with every order that is its "better"
-pub record Encoded (m : Model) (bs : List ℕ) : Type 0 where
+pub record EncodedModel (m : Model) (bs : List ℕ) : Type 0 where
   pub bytes : AllByRecursion (λ b. b < 256) bs
-  pub whole : Whole bs
-  pub valid : Valid (said bs)
-  pub size : (said bs).size ≡ m.size
-  pub means : (o : Preference) (f : Fits (said bs) o) → MeansBetter m o → Alike m (meant (said bs) o f)
+  pub whole : HasModelLength bs
+  pub valid : Valid (interpretation_of bs)
+  pub size : (interpretation_of bs).size ≡ m.size
+  pub means : (o : Preference) (f : Compatible (interpretation_of bs) o) → MeansBetter m o → Alike m (model_of (interpretation_of bs) o f)
 
 -- pairs that are a strict order, the model's "better"
-pub record Paired (m : Model) (ps : List ℕ) : Type 0 where
+pub record EncodedOrder (m : Model) (ps : List ℕ) : Type 0 where
   pub bytes : AllByRecursion (λ b. b < 256) ps
   pub lawful : PairsLawful ps
-  pub means : MeansBetter m (paired ps)
+  pub means : MeansBetter m (order_of_pairs ps)
 
 -- every model of at most 32 elements has bytes and pairs that mean it
 abbrev pub ModelsEncoded : Type 0
-ModelsEncoded = (m : Model) → m.size ≤ 32 → Encoded m (model_bytes m) × Paired m (pair_bytes m)
+ModelsEncoded = (m : Model) → m.size ≤ 32 → EncodedModel m (model_bytes m) × EncodedOrder m (pair_bytes m)

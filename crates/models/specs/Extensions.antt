@@ -1,7 +1,8 @@
 -- The elements that are in a concept, as masks.
 -- Extension: a mask is the set of a concept. HaveSets: a list has the sets of concepts. SetOfNode: a
 -- mask is the set of a node's concept. TruthOf: a test tells whether an entry is true. Complement: the
--- elements that are not in a set. Leading: those from which a role leads into it. Best, BestOf: the typical elements of a set.
+-- elements that are not in a set. SomeSuccessorIn: those from which a role leads into it. Best, BestOf: the typical
+-- elements of a set.
 -- Assumes nothing.
 use Rattle.std.specs.Prelude.{◌≡◌, ℕ, ◌<◌, Bool, true, not, ◌&&◌, List, Decides, nat_lt, slice_index}
 use Rattle.logic.specs.declared.records.Node.{Node}
@@ -12,7 +13,7 @@ use Rattle.logic.specs.Models.{Model, Sat}
 use Rattle.logic.specs.Satisfaction.{HoldsIn}
 use Rattle.orders.specs.Masks.{has, Preference}
 use Rattle.models.specs.Interpretations.{Interpretation}
-use Rattle.models.specs.Meanings.{Fits, meant}
+use Rattle.models.specs.Meanings.{Compatible, model_of}
 
 -- bit x of the mask is set exactly when x is an element in the concept
 abbrev pub Extension : Model → Concept → ℕ → Type 0
@@ -26,25 +27,25 @@ HaveSets m cs list = (i : ℕ) → Extension m (of cs i) (slice_index list i)
 -- has, the mask is the set of the node's concept.
 abbrev pub SetOfNode : Interpretation → Preference → List ℕ → Node → ℕ → Type 0
 SetOfNode i o list n mask =
-    (f : Fits i o) (cs : List Concept) → HaveSets (meant i o f) cs list → Extension (meant i o f) (read cs n) mask
+    (f : Compatible i o) (cs : List Concept) → HaveSets (model_of i o f) cs list → Extension (model_of i o f) (read cs n) mask
 
 -- In every model that the interpretation means, with whatever order, and for all books the sets of whose
 -- nodes the list has, the test tells whether the entry is true.
 abbrev pub TruthOf : Interpretation → List ℕ → Entry → Bool → Type 0
 TruthOf i list e test =
-    (o : Preference) (f : Fits i o) (bk : Book) → HaveSets (meant i o f) (concepts bk.nodes) list → Decides test (HoldsIn (meant i o f) bk e)
+    (o : Preference) (f : Compatible i o) (bk : Book) → HaveSets (model_of i o f) (concepts bk.nodes) list → Decides test (HoldsIn (model_of i o f) bk e)
 
 -- the mask has exactly the elements that are not in the set
 abbrev pub Complement : Interpretation → ℕ → ℕ → Type 0
 Complement i set mask = (x : ℕ) → has mask x ≡ (nat_lt x i.size && not (has set x))
 
 -- the mask has exactly the elements from which the role leads into the set
-abbrev pub Leading : Interpretation → ℕ → ℕ → ℕ → Type 0
-Leading i r set mask = (x : ℕ) → Decides (has mask x) ((x < i.size) × ((y : ℕ) × (has (i.led r x) y ≡ true) × (has set y ≡ true)))
+abbrev pub SomeSuccessorIn : Interpretation → ℕ → ℕ → ℕ → Type 0
+SomeSuccessorIn i r set mask = (x : ℕ) → Decides (has mask x) ((x < i.size) × ((y : ℕ) × (has (i.successors r x) y ≡ true) × (has set y ≡ true)))
 
 -- element x of the order is in the set, and no better one is
 pub record Best (o : Preference) (set x : ℕ) : Type 0 where
-  pub there : x < o.size
+  pub within : x < o.size
   pub member : has set x ≡ true
   pub none_better : (y : ℕ) → has (o.better x) y ≡ true → has set y ≡ true → ⊥
 

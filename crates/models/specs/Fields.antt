@@ -21,15 +21,15 @@ first_byte (role r x) = 257 + 4 * (32 * r + x)
 first_byte (individual a) = 2305 + a
 
 -- Of n elements, a role may lead from x to those of the set: all of them are there, and none where x is not.
-abbrev pub LedWithin : ℕ → ℕ → ℕ → Type 0
-LedWithin n x set = Within n set × (n ≤ x → set ≡ 0)
+abbrev pub SuccessorsWithin : ℕ → ℕ → ℕ → Type 0
+SuccessorsWithin n x set = Within n set × (n ≤ x → set ≡ 0)
 
 -- There are 1 to 32 elements, no field names an element that is not there, and from such an element no
 -- role leads anywhere.
 abbrev pub Good : Interpretation → Field → Type 0
 Good i size = (1 ≤ i.size) × (i.size ≤ 32)
 Good i (name a) = Within i.size (i.names a)
-Good i (role r x) = LedWithin i.size x (i.led r x)
+Good i (role r x) = SuccessorsWithin i.size x (i.successors r x)
 Good i (individual a) = i.individual a < i.size
 
 -- every field is good

@@ -5,7 +5,7 @@ pub mod Fields
 -- interpretations by tables
 pub mod Tables
 -- what a view holds
-pub mod Held
+pub mod Views
 -- the model that an interpretation and an order mean
 pub mod Meanings
 -- the elements in a concept, as masks

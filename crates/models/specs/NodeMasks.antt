@@ -1,7 +1,7 @@
 -- The mask of a node and the truth of an entry, from the masks that a list has at the places of their operands. This
 -- says what is computed for every list, view and order; where the list has the sets of concepts, and the order and
 -- the view mean a model, `Extensions` says what it means.
--- LeadingOnly: the elements from which a role leads only into a set. MaskOfNode: a mask is that of a node.
+-- AllSuccessorsIn: the elements from which a role leads only into a set. MaskOfNode: a mask is that of a node.
 -- TrueByMasks: an entry is true.
 -- Assumes nothing.
 use Rattle.std.specs.Prelude.{◌≡◌, ℕ, ◌<◌, true, false, ◌&&◌, ◌||◌, List, Decides, nat_lt, slice_index}
@@ -11,11 +11,11 @@ use Rattle.logic.specs.declared.records.Entry.{Entry}
 use Rattle.logic.specs.declared.records.Entry.TheVariants as entry
 use Rattle.orders.specs.Masks.{has, Includes, Preference}
 use Rattle.models.specs.Interpretations.{Interpretation}
-use Rattle.models.specs.Extensions.{Complement, Leading, BestOf}
+use Rattle.models.specs.Extensions.{Complement, SomeSuccessorIn, BestOf}
 
 -- the mask has exactly the elements from which the role leads only into the set
-abbrev pub LeadingOnly : Interpretation → ℕ → ℕ → ℕ → Type 0
-LeadingOnly i r set mask = (x : ℕ) → Decides (has mask x) ((x < i.size) × ((y : ℕ) → has (i.led r x) y ≡ true → has set y ≡ true))
+abbrev pub AllSuccessorsIn : Interpretation → ℕ → ℕ → ℕ → Type 0
+AllSuccessorsIn i r set mask = (x : ℕ) → Decides (has mask x) ((x < i.size) × ((y : ℕ) → has (i.successors r x) y ≡ true → has set y ≡ true))
 
 -- the mask is that of the node, bit by bit
 abbrev pub MaskOfNode : Interpretation → Preference → List ℕ → Node → ℕ → Type 0
@@ -25,8 +25,8 @@ MaskOfNode i o list (Name a) mask = (x : ℕ) → has mask x ≡ has (i.names a)
 MaskOfNode i o list (Not c) mask = Complement i (slice_index list c) mask
 MaskOfNode i o list (And c d) mask = (x : ℕ) → has mask x ≡ (has (slice_index list c) x && has (slice_index list d) x)
 MaskOfNode i o list (Or c d) mask = (x : ℕ) → has mask x ≡ (has (slice_index list c) x || has (slice_index list d) x)
-MaskOfNode i o list (All r c) mask = LeadingOnly i r (slice_index list c) mask
-MaskOfNode i o list (Exists r c) mask = Leading i r (slice_index list c) mask
+MaskOfNode i o list (All r c) mask = AllSuccessorsIn i r (slice_index list c) mask
+MaskOfNode i o list (Exists r c) mask = SomeSuccessorIn i r (slice_index list c) mask
 MaskOfNode i o list (Typical c) mask = BestOf o (slice_index list c) mask
 MaskOfNode i o list Absent mask = (x : ℕ) → has mask x ≡ false
 
@@ -34,5 +34,5 @@ MaskOfNode i o list Absent mask = (x : ℕ) → has mask x ≡ false
 abbrev pub TrueByMasks : Interpretation → List ℕ → Entry → Type 0
 TrueByMasks i list (entry.Inclusion c d) = Includes (slice_index list d) (slice_index list c)
 TrueByMasks i list (entry.Fact a c) = has (slice_index list c) (i.individual a) ≡ true
-TrueByMasks i list (entry.RoleFact r a b) = has (i.led r (i.individual a)) (i.individual b) ≡ true
+TrueByMasks i list (entry.RoleFact r a b) = has (i.successors r (i.individual a)) (i.individual b) ≡ true
 TrueByMasks i list entry.Absent = Unit {0}

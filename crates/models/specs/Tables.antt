@@ -11,6 +11,6 @@ by_tables t =
     record {
       size = t.size;
       names = λ a. slice_index t.names a;
-      led = λ r x. slice_index (slice_index_or t.roles r []) x;
+      successors = λ r x. slice_index (slice_index_or t.roles r []) x;
       individual = λ a. slice_index t.individuals a;
     }

@@ -1,9 +1,9 @@
 // The fields of an interpretation as tables: reading them from bytes, and the lowest one that is bad.
 ghost use Rattle.std.specs.Prelude.{◌≡◌, ℕ, ◌<◌, ◌≤◌, Decides, slice_index};
-ghost use Rattle.orders.specs.Masks.{Table};
-ghost use Rattle.models.specs.Interpretations.{said};
+ghost use Rattle.orders.specs.Masks.{Tabulates};
+ghost use Rattle.models.specs.Interpretations.{interpretation_of};
 ghost use Rattle.models.specs.Tables.{by_tables};
-ghost use Rattle.models.specs.Fields.{name, individual, Good, LedWithin, FirstWithout, FirstBad};
+ghost use Rattle.models.specs.Fields.{name, individual, Good, SuccessorsWithin, FirstWithout, FirstBad};
 
 use orders::bytes::{byte_at, word_at};
 use orders::masks::within;
@@ -20,26 +20,26 @@ pub(crate) struct Tables {
 }
 
 // Whether a role may lead from x to the elements of the set.
-fn led_within(n: u8, x: usize, set: u32) -> bool
-    ensures { Decides result (LedWithin n x set) }
+fn successors_within(n: u8, x: usize, set: u32) -> bool
+    ensures { Decides result (SuccessorsWithin n x set) }
 {
     within(set, n) && (x < n as usize || set == 0)
 }
 
 // The lowest element at which the set of a role is bad. Past the end of a row there are no sets.
-fn first_led(n: u8, row: &[u32; 32]) -> Option<usize>
-    ensures lowest { FirstWithout (λ x. LedWithin n x (slice_index row.now x)) 32 result }
+fn first_bad_row(n: u8, row: &[u32; 32]) -> Option<usize>
+    ensures lowest { FirstWithout (λ x. SuccessorsWithin n x (slice_index row.now x)) 32 result }
     ensures past { (x : ℕ) → 32 ≤ x → slice_index row.now x ≡ 0 }
 {
     row.iter()
         .enumerate()
-        .position(|(x, set)| !led_within(n, x, *set))
+        .position(|(x, set)| !successors_within(n, x, *set))
 }
 
 impl Tables {
     // The tables of what the bytes say.
     pub(crate) fn from_bytes(bytes: &[u8]) -> Tables
-        ensures { by_tables result ≡ said bytes.now }
+        ensures { by_tables result ≡ interpretation_of bytes.now }
     {
         Tables {
             size: byte_at(bytes, 0),
@@ -47,7 +47,7 @@ impl Tables {
             roles: from_fn(
                 |r|
                     requires { r < 16 }
-                    ensures { Table ((said bytes.entry.now).led r) result }
+                    ensures { Tabulates ((interpretation_of bytes.entry.now).successors r) result }
                 { from_fn(|x| word_at(bytes, 257 + 4 * (32 * r + x) as u16)) },
             ),
             individuals: from_fn(|a| byte_at(bytes, 2305 + a)),
@@ -80,7 +80,7 @@ impl Tables {
         }
         // tried: `find_map`, whose proof did not close at once; it takes a lemma over the run of rows, and the loop none
         for (r, row) in self.roles.iter().enumerate() {
-            if let Some(x) = first_led(self.size, row) {
+            if let Some(x) = first_bad_row(self.size, row) {
                 return Some(257 + 4 * (32 * r + x));
             }
         }

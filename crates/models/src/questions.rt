@@ -1,20 +1,20 @@
 // What a view answers, from the interpretation that it holds.
 ghost use Rattle.std.specs.Prelude.{◌≡◌, [], slice_index_or};
-ghost use Rattle.models.specs.Held.{held};
+ghost use Rattle.models.specs.Views.{view_meaning};
 
 use crate::view::View;
 
 impl View {
     // The number of elements.
     pub fn size(&self) -> u8
-        ensures { result ≡ (held self.now).size }
+        ensures { result ≡ (view_meaning self.now).size }
     {
         self.tables.size
     }
 
     // The set of a name; empty past the last.
     pub(crate) fn name(&self, a: u16) -> u32
-        ensures { result ≡ (held self.now).names a }
+        ensures { result ≡ (view_meaning self.now).names a }
     {
         self.tables.names.get(a as usize).copied().unwrap_or(0)
     }
@@ -30,8 +30,8 @@ impl View {
     }
 
     // The elements to which a role leads from element x; none past the last role or element.
-    pub(crate) fn led_to(&self, role: u16, x: u8) -> u32
-        ensures { result ≡ (held self.now).led role x }
+    pub(crate) fn successors(&self, role: u16, x: u8) -> u32
+        ensures { result ≡ (view_meaning self.now).successors role x }
     {
         let row = self.tables.roles.get(role as usize);
         row.and_then(|row| row.get(x as usize))
@@ -42,7 +42,7 @@ impl View {
     // The element of an individual; 0 past the last. Not one function with `name`: each is one line, over a table
     // of its own.
     pub(crate) fn element(&self, individual: u16) -> u8
-        ensures { result ≡ (held self.now).individual individual }
+        ensures { result ≡ (view_meaning self.now).individual individual }
     {
         self.tables
             .individuals

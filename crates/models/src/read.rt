@@ -1,8 +1,8 @@
 // From bytes to a view.
 ghost use Rattle.std.specs.Prelude.{is_ok, Decides};
-ghost use Rattle.models.specs.Interpretations.{said};
+ghost use Rattle.models.specs.Interpretations.{interpretation_of};
 ghost use Rattle.models.specs.Fields.{Valid};
-ghost use Rattle.models.specs.Answers.{Whole, ReadAnswer};
+ghost use Rattle.models.specs.Answers.{HasModelLength, ReadAnswer};
 
 use crate::faults::ViewFault;
 use crate::fields::Tables;
@@ -15,7 +15,7 @@ impl View {
     // interpretation has and every field is good.
     pub fn read(bytes: &[u8]) -> Result<View, ViewFault>
         ensures answer { ReadAnswer bytes.now result }
-        ensures exact { Decides (is_ok result) (Whole bytes.now × Valid (said bytes.now)) }
+        ensures exact { Decides (is_ok result) (HasModelLength bytes.now × Valid (interpretation_of bytes.now)) }
     {
         if bytes.len() != LENGTH {
             return Err(ViewFault::BadLength(bytes.len()));

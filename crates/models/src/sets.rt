@@ -1,9 +1,9 @@
 // The set of each concept, as a mask: bit x is element x.
 ghost use Rattle.std.specs.Prelude.{◌≡◌, not, ◌&&◌, slice_index};
 ghost use Rattle.orders.specs.Masks.{has, meeting};
-ghost use Rattle.models.specs.Held.{held};
-ghost use Rattle.models.specs.Extensions.{SetOfNode, Complement, Leading, BestOf};
-ghost use Rattle.models.specs.NodeMasks.{LeadingOnly, MaskOfNode};
+ghost use Rattle.models.specs.Views.{view_meaning};
+ghost use Rattle.models.specs.Extensions.{SetOfNode, Complement, SomeSuccessorIn, BestOf};
+ghost use Rattle.models.specs.NodeMasks.{AllSuccessorsIn, MaskOfNode};
 
 use crate::view::View;
 use logic::records::Node;
@@ -20,12 +20,12 @@ pub(crate) fn set_at(list: &[u32], i: u16) -> u32
 // Being an element from which a role leads into a set.
 // A type in place of a closure, which would bring a `requires` on a public call, `mask_of`.
 #[derive(Drop)]
-struct Led<'a> {
+struct SuccessorIn<'a> {
     row: &'a [u32],
     set: u32,
 }
 
-impl<'a> Property for Led<'a> {
+impl<'a> Property for SuccessorIn<'a> {
     ghost holds = { λ p x. meeting (slice_index p.row.now x) p.set };
 
     fn test(&self, x: u8) -> bool {
@@ -52,24 +52,24 @@ impl<'a, O: Order> Property for Best<'a, O> {
 
 // The elements that are not in the set.
 fn complement(view: &View, set: u32) -> u32
-    ensures { Complement (held view.now) set result }
+    ensures { Complement (view_meaning view.now) set result }
 {
     without(all_below(view.size()), set)
 }
 
 // The elements from which the role leads into the set.
-fn leading(view: &View, role: u16, set: u32) -> u32
-    ensures { Leading (held view.now) role set result }
+fn some_successor_in(view: &View, role: u16, set: u32) -> u32
+    ensures { SomeSuccessorIn (view_meaning view.now) role set result }
 {
     let row = view.row(role);
-    mask_of(&Led { row, set }, view.size())
+    mask_of(&SuccessorIn { row, set }, view.size())
 }
 
 // The elements from which the role leads only into the set: those from which it does not lead out of it.
-fn leading_only(view: &View, role: u16, set: u32) -> u32
-    ensures { LeadingOnly (held view.now) role set result }
+fn all_successors_in(view: &View, role: u16, set: u32) -> u32
+    ensures { AllSuccessorsIn (view_meaning view.now) role set result }
 {
-    complement(view, leading(view, role, complement(view, set)))
+    complement(view, some_successor_in(view, role, complement(view, set)))
 }
 
 // The typical elements of a set: those elements of the order in it than which no better one is in it.
@@ -83,8 +83,8 @@ pub fn typical<O: Order>(order: &O, set: u32) -> u32
 // the concepts of the nodes before it, and the order is one of the view's elements, it is the set of the node's concept.
 // The list goes beside the view and is no part of it, since the caller lends it.
 pub fn extension<O: Order>(view: &View, order: &O, list: &[u32], node: Node) -> u32
-    ensures mask { MaskOfNode (held view.now) (O.meaning order.now) list.now node result }
-    ensures set { SetOfNode (held view.now) (O.meaning order.now) list.now node result }
+    ensures mask { MaskOfNode (view_meaning view.now) (O.meaning order.now) list.now node result }
+    ensures set { SetOfNode (view_meaning view.now) (O.meaning order.now) list.now node result }
 {
     match node {
         Node::Top => all_below(view.size()),
@@ -93,8 +93,8 @@ pub fn extension<O: Order>(view: &View, order: &O, list: &[u32], node: Node) -> 
         Node::Not(c) => complement(view, set_at(list, c)),
         Node::And(c, d) => set_at(list, c) & set_at(list, d),
         Node::Or(c, d) => set_at(list, c) | set_at(list, d),
-        Node::All(role, c) => leading_only(view, role, set_at(list, c)),
-        Node::Exists(role, c) => leading(view, role, set_at(list, c)),
+        Node::All(role, c) => all_successors_in(view, role, set_at(list, c)),
+        Node::Exists(role, c) => some_successor_in(view, role, set_at(list, c)),
         Node::Typical(c) => typical(order, set_at(list, c)),
         Node::Absent => 0,
     }

@@ -1,6 +1,6 @@
 // Whether an entry is true.
 ghost use Rattle.std.specs.Prelude.{Decides};
-ghost use Rattle.models.specs.Held.{held};
+ghost use Rattle.models.specs.Views.{view_meaning};
 ghost use Rattle.models.specs.Extensions.{TruthOf};
 ghost use Rattle.models.specs.NodeMasks.{TrueByMasks};
 
@@ -12,14 +12,14 @@ use orders::masks::{contains, includes};
 // Whether the entry is true by the masks of the list, whatever they are. Where the list has the set of each node of the
 // entry's book, it tells whether the entry is true in the model that the view means, with whatever order.
 pub fn is_true(view: &View, list: &[u32], entry: Entry) -> bool
-    ensures masks { Decides result (TrueByMasks (held view.now) list.now entry) }
-    ensures truth { TruthOf (held view.now) list.now entry result }
+    ensures masks { Decides result (TrueByMasks (view_meaning view.now) list.now entry) }
+    ensures truth { TruthOf (view_meaning view.now) list.now entry result }
 {
     match entry {
         Entry::Inclusion(c, d) => includes(set_at(list, d), set_at(list, c)),
         Entry::Fact(x, c) => contains(set_at(list, c), view.element(x)),
         Entry::RoleFact(role, x, y) => contains(
-            view.led_to(role, view.element(x)),
+            view.successors(role, view.element(x)),
             view.element(y),
         ),
         Entry::Absent => true,

@@ -5,7 +5,7 @@ use Rattle.std.specs.Fn.{Called}
 use Rattle.std.specs.Array.{IsFromFnResult, IsFromFnResultFrom}
 use Rattle.std.proofs.lemmas.Bool.{cases_lt, cond-true, cond-false, lt-ltb, le-ltb}
 use Rattle.std.proofs.lemmas.List.{get_or_past}
-use Rattle.orders.specs.Masks.{Table}
+use Rattle.orders.specs.Masks.{Tabulates}
 
 -- the closure changes nothing, and what it gives for the numbers below n has the property
 abbrev Gives : {F B : Type 0} → Mut F (ℕ × Unit {0}) B → F → ℕ → (ℕ → B → Type 0) → Type 0
@@ -28,7 +28,7 @@ made_at {F} {B} {g} {f} {ys} {n} P made each d past k = elim (cases_lt k n) [
 ]
 
 -- an array of the values of a function
-pub made_table : {F : Type 0} {g : Mut F (ℕ × Unit {0}) ℕ} {f : F} {ys : List ℕ} {n : ℕ} (v : ℕ → ℕ) → IsFromFnResult g f ys n → Gives g f n (λ k y. y ≡ v k) → Table (λ k. cond (ltb k n) (v k) 0) ys
+pub made_table : {F : Type 0} {g : Mut F (ℕ × Unit {0}) ℕ} {f : F} {ys : List ℕ} {n : ℕ} (v : ℕ → ℕ) → IsFromFnResult g f ys n → Gives g f n (λ k y. y ≡ v k) → Tabulates (λ k. cond (ltb k n) (v k) 0) ys
 made_table {F} {g} {f} {ys} {n} v made each =
     made_at (λ k y. y ≡ cond (ltb k n) (v k) 0) made
     (λ k y q l h. let w = each k y q l h in (w.0, w.1 ∙ sym (cond-true _ (v k) 0 (lt-ltb k n l))))

@@ -3,9 +3,9 @@ use Rattle.std.proofs.Common.{◌≡◌, ℕ, ◌+◌, ◌*◌, ◌/◌, ◌<◌
 use Rattle.std.proofs.lemmas.List.{get_or_past}
 use Rattle.std.proofs.lemmas.Bool.{cases_lt, both_ways, and_parts, and_from, ltb-true, lt-ltb}
 use Rattle.orders.specs.Bytes.{byte, word}
-use Rattle.orders.specs.Masks.{has, Preference, Strict, by_rows, alone, Table}
-use Rattle.orders.specs.PairLaws.{paired, WholeRows, PairsLawful, LawfulRow, FirstUnlawful}
-use Rattle.orders.specs.RankLaws.{ranked, RanksLawful}
+use Rattle.orders.specs.Masks.{has, Preference, Strict, by_rows, alone, Tabulates}
+use Rattle.orders.specs.PairLaws.{order_of_pairs, WholeRows, PairsLawful, LawfulRow, FirstUnlawful}
+use Rattle.orders.specs.RankLaws.{order_of_ranks, RanksLawful}
 use Rattle.orders.proofs.MaskBits.{has-zero, never, same_bits, mask_has}
 use Rattle.orders.proofs.Tables.{table_means}
 
@@ -49,39 +49,39 @@ word_past bs k h =
     omega arith
 
 -- where the rows that the bytes say are all lawful, so are the bytes
-pub paired_lawful : (bs rows : List ℕ) → WholeRows bs → Table (paired bs).better rows → FirstUnlawful (by_rows (length bs / 4) rows) None → PairsLawful bs
+pub paired_lawful : (bs rows : List ℕ) → WholeRows bs → Tabulates (order_of_pairs bs).better rows → FirstUnlawful (by_rows (length bs / 4) rows) None → PairsLawful bs
 paired_lawful bs rows whole table none = (
   whole,
-  rows_strict (paired bs) (omega (arith, whole.some)) (omega (arith, whole.few))
+  rows_strict (order_of_pairs bs) (omega (arith, whole.some)) (omega (arith, whole.few))
       (λ x h. word_past bs (4 * x) (omega (arith, whole.fours)))
-      (subst (λ o. FirstUnlawful o None) (table_means (paired bs) (length bs / 4) rows refl table) none),
+      (subst (λ o. FirstUnlawful o None) (table_means (order_of_pairs bs) (length bs / 4) rows refl table) none),
 )
 
 -- a table of the sets of a strict order is strict
-pub table_strict : (o : Preference) (masks : List ℕ) → Table o.better masks → Strict o → Strict (by_rows o.size masks)
+pub table_strict : (o : Preference) (masks : List ℕ) → Tabulates o.better masks → Strict o → Strict (by_rows o.size masks)
 table_strict o masks table strict = subst Strict (sym (table_means o o.size masks refl table)) strict
 
 -- which elements are better by rank
-better_true : (rs : List ℕ) (x y : ℕ) → has ((ranked rs).better x) y ≡ true → (y < length rs) × (byte rs y < byte rs x)
+better_true : (rs : List ℕ) (x y : ℕ) → has ((order_of_ranks rs).better x) y ≡ true → (y < length rs) × (byte rs y < byte rs x)
 better_true rs x y h =
     let p = and_parts _ _ (sym (mask_has (λ z. ltb (byte rs z) (byte rs x)) (length rs) y) ∙ h) in
     (ltb-true _ _ p.0, ltb-true _ _ p.1)
 
-better_from : (rs : List ℕ) (x y : ℕ) → y < length rs → byte rs y < byte rs x → has ((ranked rs).better x) y ≡ true
+better_from : (rs : List ℕ) (x y : ℕ) → y < length rs → byte rs y < byte rs x → has ((order_of_ranks rs).better x) y ≡ true
 better_from rs x y l h = mask_has (λ z. ltb (byte rs z) (byte rs x)) (length rs) y ∙ and_from _ _ (lt-ltb _ _ l) (lt-ltb _ _ h)
 
-pub ranked_past : (rs : List ℕ) (x : ℕ) → length rs ≤ x → (ranked rs).better x ≡ 0
+pub ranked_past : (rs : List ℕ) (x : ℕ) → length rs ≤ x → (order_of_ranks rs).better x ≡ 0
 ranked_past rs x h =
-    same_bits ((ranked rs).better x) 0
-    (λ y. never (has ((ranked rs).better x) y) (λ t. omega (arith, (better_true rs x y t).1, get_or_past rs x 0 h)) ∙ sym (has-zero y))
+    same_bits ((order_of_ranks rs).better x) 0
+    (λ y. never (has ((order_of_ranks rs).better x) y) (λ t. omega (arith, (better_true rs x y t).1, get_or_past rs x 0 h)) ∙ sym (has-zero y))
 
-pub ranked_strict : (rs : List ℕ) → RanksLawful rs → Strict (ranked rs)
+pub ranked_strict : (rs : List ℕ) → RanksLawful rs → Strict (order_of_ranks rs)
 ranked_strict rs lawful = record {
   some = lawful.0;
   few = lawful.1;
   within = λ x y h. (better_true rs x y h).0;
   past = ranked_past rs;
-  irreflexive = λ x. never (has ((ranked rs).better x) x) (λ h. omega (arith, (better_true rs x x h).1));
+  irreflexive = λ x. never (has ((order_of_ranks rs).better x) x) (λ h. omega (arith, (better_true rs x x h).1));
   transitive = λ x y z h k.
       (let p = better_true rs x y h in
       let q = better_true rs y z k in

@@ -8,7 +8,7 @@ use Rattle.logic.specs.Lengths.{bad_length_number, bad_length_place}
 use Rattle.orders.specs.declared.faults.PairsFault.{PairsFault}
 use Rattle.orders.specs.declared.faults.PairsFault.TheVariants as pairs
 use Rattle.orders.specs.Masks.{Preference}
-use Rattle.orders.specs.PairLaws.{paired, WholeRows, LowestUnlawful}
+use Rattle.orders.specs.PairLaws.{order_of_pairs, WholeRows, LowestUnlawful}
 use Rattle.orders.specs.RankLaws.{RanksLawful}
 use Rattle.orders.specs.Faults.{pairs_fault_number, pairs_fault_place}
 
@@ -16,7 +16,7 @@ use Rattle.orders.specs.Faults.{pairs_fault_number, pairs_fault_place}
 -- element whose set is not lawful
 abbrev pub PairsRefused : List ℕ → PairsFault → Type 0
 PairsRefused bs (pairs.BadLength n) = (WholeRows bs → ⊥) × (pairs_fault_number (pairs.BadLength n) ≡ 7) × (pairs_fault_place (pairs.BadLength n) ≡ length bs)
-PairsRefused bs (pairs.Unlawful x) = WholeRows bs × (pairs_fault_number (pairs.Unlawful x) ≡ 15) × LowestUnlawful (paired bs) (pairs_fault_place (pairs.Unlawful x))
+PairsRefused bs (pairs.Unlawful x) = WholeRows bs × (pairs_fault_number (pairs.Unlawful x) ≡ 15) × LowestUnlawful (order_of_pairs bs) (pairs_fault_place (pairs.Unlawful x))
 
 -- 7 with the length
 abbrev pub RanksRefused : List ℕ → BadLength 7 → Type 0
@@ -24,5 +24,5 @@ RanksRefused bs f = (RanksLawful bs → ⊥) × (bad_length_number f ≡ 7) × (
 
 -- granted: the bytes are lawful, and the order is what they say; refused: nothing changed
 abbrev pub FillAnswer : {F : Type 0} → (List ℕ → Type 0) → (List ℕ → Preference) → (List ℕ → F → Type 0) → Preference → Preference → List ℕ → Result (Unit {0}) F → Type 0
-FillAnswer Lawful said Refused old new bs (Ok u) = Lawful bs × (new ≡ said bs)
-FillAnswer Lawful said Refused old new bs (Err f) = Refused bs f × (new ≡ old)
+FillAnswer Lawful order_of_bytes Refused old new bs (Ok u) = Lawful bs × (new ≡ order_of_bytes bs)
+FillAnswer Lawful order_of_bytes Refused old new bs (Err f) = Refused bs f × (new ≡ old)

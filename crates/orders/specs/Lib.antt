@@ -3,7 +3,7 @@ pub mod Bytes
 -- sets as masks, and strict orders
 pub mod Masks
 -- the order that rows hold
-pub mod Held
+pub mod RowOrders
 -- orders by pairs
 pub mod PairLaws
 -- orders by ranks

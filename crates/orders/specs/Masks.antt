@@ -58,5 +58,5 @@ abbrev pub alone : Preference
 alone = record { size = 1; better = λ x. 0 }
 
 -- the table has what the function gives, at every place
-abbrev pub Table : (ℕ → ℕ) → List ℕ → Type 0
-Table f masks = (x : ℕ) → slice_index masks x ≡ f x
+abbrev pub Tabulates : (ℕ → ℕ) → List ℕ → Type 0
+Tabulates f masks = (x : ℕ) → slice_index masks x ≡ f x

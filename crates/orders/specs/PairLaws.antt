@@ -1,5 +1,5 @@
 -- Orders by pairs: four bytes for each element, the mask of the elements that are better.
--- paired: the order that bytes say. LawfulRow: what is asked of the set of one element.
+-- order_of_pairs: the order that bytes say. LawfulRow: what is asked of the set of one element.
 -- PairsLawful: the bytes that are a strict order.
 -- Assumes nothing.
 use Rattle.std.specs.Prelude.{◌≡◌, ℕ, ◌*◌, ◌/◌, ◌%◌, ◌<◌, ◌≤◌, true, false, List, length, Some, None, Option, slice_index}
@@ -7,8 +7,8 @@ use Rattle.orders.specs.Bytes.{word}
 use Rattle.orders.specs.Masks.{has, Within, Includes, Preference, Strict}
 
 -- the order that the bytes say
-abbrev pub paired : List ℕ → Preference
-paired bs = record { size = length bs / 4; better = λ x. word bs (4 * x) }
+abbrev pub order_of_pairs : List ℕ → Preference
+order_of_pairs bs = record { size = length bs / 4; better = λ x. word bs (4 * x) }
 
 -- four bytes for each of 1 to 32 elements
 pub record WholeRows (bs : List ℕ) : Type 0 where
@@ -18,11 +18,11 @@ pub record WholeRows (bs : List ℕ) : Type 0 where
 
 -- the bytes are a strict order
 abbrev pub PairsLawful : List ℕ → Type 0
-PairsLawful bs = WholeRows bs × Strict (paired bs)
+PairsLawful bs = WholeRows bs × Strict (order_of_pairs bs)
 
 -- where the row has y, it includes the row of y
-abbrev pub ClosedAt : List ℕ → ℕ → ℕ → Type 0
-ClosedAt rows row y = has row y ≡ true → Includes row (slice_index rows y)
+abbrev pub TransitiveAt : List ℕ → ℕ → ℕ → Type 0
+TransitiveAt rows row y = has row y ≡ true → Includes row (slice_index rows y)
 
 -- the set of x has no element past the size, not x itself, and with each element the set of that element
 pub record LawfulRow (o : Preference) (x : ℕ) : Type 0 where
@@ -32,7 +32,7 @@ pub record LawfulRow (o : Preference) (x : ℕ) : Type 0 where
 
 -- x is the lowest element whose set is not lawful
 pub record LowestUnlawful (o : Preference) (x : ℕ) : Type 0 where
-  pub there : x < o.size
+  pub within : x < o.size
   pub unlawful : LawfulRow o x → ⊥
   pub lowest : (w : ℕ) → w < x → LawfulRow o w
 

@@ -1,13 +1,13 @@
 -- Orders by ranks: one byte for each element, and y is better than x when its byte is lower.
--- ranked: the order that ranks say. RanksLawful: how many there are.
+-- order_of_ranks: the order that ranks say. RanksLawful: how many there are.
 -- Assumes nothing.
 use Rattle.std.specs.Prelude.{ℕ, ◌≤◌, List, length, nat_lt}
 use Rattle.orders.specs.Bytes.{byte}
 use Rattle.orders.specs.Masks.{mask_of, Preference}
 
 -- the order that the ranks say; past the end a rank is 0, and none is lower
-abbrev pub ranked : List ℕ → Preference
-ranked rs = record { size = length rs; better = λ x. mask_of (λ y. nat_lt (byte rs y) (byte rs x)) (length rs) }
+abbrev pub order_of_ranks : List ℕ → Preference
+order_of_ranks rs = record { size = length rs; better = λ x. mask_of (λ y. nat_lt (byte rs y) (byte rs x)) (length rs) }
 
 -- one rank for each of 1 to 32 elements
 abbrev pub RanksLawful : List ℕ → Type 0

@@ -1,7 +1,7 @@
 // An order by pairs: the bytes have, for each element, the set of the elements that are better.
 ghost use Rattle.std.specs.Prelude.{◌≡◌, ℕ, ◌<◌, ◌≤◌, length, Decides};
-ghost use Rattle.orders.specs.Masks.{by_rows, Table};
-ghost use Rattle.orders.specs.PairLaws.{paired, ClosedAt, LawfulRow, FirstUnlawful, PairsLawful};
+ghost use Rattle.orders.specs.Masks.{by_rows, Tabulates};
+ghost use Rattle.orders.specs.PairLaws.{order_of_pairs, TransitiveAt, LawfulRow, FirstUnlawful, PairsLawful};
 ghost use Rattle.orders.specs.Answers.{PairsRefused};
 
 use crate::bytes::word_at;
@@ -17,16 +17,16 @@ pub type Pairs = Filled<ByPairs>;
 
 // The rows of at most 32 elements, of which no law is known yet, so these are no `Rows`.
 #[derive(Drop)]
-struct Offer {
+struct OfferedRows {
     size: u8,
     rows: [u32; 32],
     ghost few: { size ≤ 32 },
 }
 
-impl Offer {
+impl OfferedRows {
     // Whether the row includes the row of each element that it has.
     fn closed(&self, row: u32) -> bool
-        ensures { Decides result ((y : ℕ) → y < self.now.size → ClosedAt self.now.rows row y) }
+        ensures { Decides result ((y : ℕ) → y < self.now.size → TransitiveAt self.now.rows row y) }
     {
         (0..self.size).all(|y| !contains(row, y) || includes(row, self.rows[y as usize]))
     }
@@ -51,7 +51,7 @@ impl Offer {
 // The rows of the bytes, and empty ones up to 32.
 fn rows_of(bytes: &[u8]) -> [u32; 32]
     requires { length bytes.now ≤ 128 }
-    ensures { Table (paired bytes.now).better result }
+    ensures { Tabulates (order_of_pairs bytes.now).better result }
 {
     std::array::from_fn(|x| word_at(bytes, 4 * x as u16))
 }
@@ -61,7 +61,7 @@ impl Encoding for ByPairs {
 
     ghost Lawful = { PairsLawful };
 
-    ghost said = { paired };
+    ghost order_of_bytes = { order_of_pairs };
 
     ghost Refused = { PairsRefused };
 
@@ -70,7 +70,7 @@ impl Encoding for ByPairs {
         if n % 4 != 0 || n < 4 || n > 128 {
             return Err(PairsFault::BadLength(n));
         }
-        let offer = Offer {
+        let offer = OfferedRows {
             size: (n / 4) as u8,
             rows: rows_of(bytes),
         };

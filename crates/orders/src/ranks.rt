@@ -1,8 +1,8 @@
 // An order by ranks: the bytes have a rank for each element, and a lower rank is better.
 ghost use Rattle.std.specs.Prelude.{◌≡◌, ◌≤◌, length, nat_lt};
 ghost use Rattle.orders.specs.Bytes.{byte};
-ghost use Rattle.orders.specs.Masks.{Table};
-ghost use Rattle.orders.specs.RankLaws.{ranked, RanksLawful};
+ghost use Rattle.orders.specs.Masks.{Tabulates};
+ghost use Rattle.orders.specs.RankLaws.{order_of_ranks, RanksLawful};
 ghost use Rattle.orders.specs.Answers.{RanksRefused};
 
 use crate::bytes::byte_at;
@@ -44,7 +44,7 @@ impl<'a> Property for LowerThan<'a> {
 // The elements whose rank is lower than that of x.
 fn lower(ranks: &[u8], x: usize) -> u32
     requires { length ranks.now ≤ 32 }
-    ensures { result ≡ (ranked ranks.now).better x }
+    ensures { result ≡ (order_of_ranks ranks.now).better x }
 {
     let rank = byte_at(ranks, x);
     mask_of(&LowerThan { ranks, rank }, ranks.len() as u8)
@@ -53,7 +53,7 @@ fn lower(ranks: &[u8], x: usize) -> u32
 // For each element the elements of lower rank, and empty sets up to 32.
 fn rows_of(ranks: &[u8]) -> [u32; 32]
     requires { length ranks.now ≤ 32 }
-    ensures { Table (ranked ranks.now).better result }
+    ensures { Tabulates (order_of_ranks ranks.now).better result }
 {
     std::array::from_fn(|x| lower(ranks, x))
 }
@@ -63,7 +63,7 @@ impl Encoding for ByRanks {
 
     ghost Lawful = { RanksLawful };
 
-    ghost said = { ranked };
+    ghost order_of_bytes = { order_of_ranks };
 
     ghost Refused = { RanksRefused };
 

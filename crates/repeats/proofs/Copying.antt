@@ -5,10 +5,10 @@ use Rattle.std.proofs.lemmas.List.{take_more, get_or_push}
 use Rattle.logic.specs.declared.records.Entry.{Entry}
 use Rattle.logic.specs.declared.records.Entry.TheVariants as entry
 use Rattle.logic.specs.declared.records.RawEntry.{RawEntry}
-use Rattle.logic.specs.declared.records.Line.{Line}
+use Rattle.logic.specs.declared.records.StoredEntry.{StoredEntry}
 use Rattle.logic.specs.Written.{entry_of, entry_kind, entry_a, entry_b, entry_c, WritesEntry}
-use Rattle.logic.specs.Books.{Book, line_at, no_line, with_entry, with_strike, struck}
-use Rattle.repeats.specs.Copies.{first_lines}
+use Rattle.logic.specs.Books.{Book, stored_at, no_stored_entry, with_entry, with_strike, struck}
+use Rattle.repeats.specs.Copies.{copied_entries}
 
 -- an entry is read from its own numbers
 entry_back : (e : Entry) (raw : RawEntry) → WritesEntry raw e → entry_of raw ≡ e
@@ -23,21 +23,21 @@ entry_back e raw w = ap entry_of same ∙ own e
     own (entry.RoleFact r x y) = refl
     own entry.Absent = refl
 
-pub struck_copied : (bk : Book) (j : ℕ) (l : Line) (raw : RawEntry) → j < length bk.lines → l ≡ line_at bk j → l.live ≡ false → WritesEntry raw l.entry → with_strike (with_entry (first_lines bk j) (entry_of raw)) (length (take j bk.lines)) ≡ first_lines bk (j + 1)
-struck_copied bk j l raw within is dead w = λ k. record { nodes = bk.nodes; lines = lines k }
+pub struck_copied : (bk : Book) (j : ℕ) (l : StoredEntry) (raw : RawEntry) → j < length bk.entries → l ≡ stored_at bk j → l.live ≡ false → WritesEntry raw l.entry → with_strike (with_entry (copied_entries bk j) (entry_of raw)) (length (take j bk.entries)) ≡ copied_entries bk (j + 1)
+struck_copied bk j l raw within is dead w = λ k. record { nodes = bk.nodes; entries = entries k }
   where
-    front : List Line
-    front = take j bk.lines
+    front : List StoredEntry
+    front = take j bk.entries
 
-    taken : Line
+    taken : StoredEntry
     taken = record { entry = entry_of raw; live = true }
 
-    same : struck taken ≡ line_at bk j
+    same : struck taken ≡ stored_at bk j
     same = (λ i. record { entry = entry_back l.entry raw w i; live = sym dead i }) ∙ is
 
-    lines : set (front ++ taken ∷ []) (length front) (struck (get_or (front ++ taken ∷ []) (length front) no_line)) ≡ take (j + 1) bk.lines
-    lines =
-        ap (λ x. set (front ++ taken ∷ []) (length front) (struck x)) (get_or_push front taken no_line (length front) refl)
+    entries : set (front ++ taken ∷ []) (length front) (struck (get_or (front ++ taken ∷ []) (length front) no_stored_entry)) ≡ take (j + 1) bk.entries
+    entries =
+        ap (λ x. set (front ++ taken ∷ []) (length front) (struck x)) (get_or_push front taken no_stored_entry (length front) refl)
         ∙ set-append_seam front taken [] (struck taken)
         ∙ ap (λ x. front ++ x ∷ []) same
-        ∙ sym (take_more bk.lines j no_line within)
+        ∙ sym (take_more bk.entries j no_stored_entry within)

@@ -1,11 +1,11 @@
 -- A book copied record by record.
--- first_nodes: its first nodes alone. first_lines: its nodes and its first entries with their marks.
+-- copied_nodes: its first nodes alone. copied_entries: its nodes and its first entries with their marks.
 -- Assumes nothing.
 use Rattle.std.specs.Prelude.{ℕ, [], take}
 use Rattle.logic.specs.Books.{Book}
 
-abbrev pub first_nodes : Book → ℕ → Book
-first_nodes bk i = record { nodes = take i bk.nodes; lines = [] }
+abbrev pub copied_nodes : Book → ℕ → Book
+copied_nodes bk i = record { nodes = take i bk.nodes; entries = [] }
 
-abbrev pub first_lines : Book → ℕ → Book
-first_lines bk j = record { nodes = bk.nodes; lines = take j bk.lines }
+abbrev pub copied_entries : Book → ℕ → Book
+copied_entries bk j = record { nodes = bk.nodes; entries = take j bk.entries }

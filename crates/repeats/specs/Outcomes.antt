@@ -1,18 +1,18 @@
 -- What judging again and again answers.
 -- InMemory: how a book is kept. no_memory, outcome_of: the outcomes. RefutedBy, SatisfiedBy: what the judge answers over a book.
--- TableauTold, ModelTold: what is told of a hand-in.
+-- TableauOutcome, ModelOutcome: what is told of a hand-in.
 -- Assumes nothing.
 use Rattle.std.specs.Prelude.{◌≡◌, ◌⊎◌, ℕ, List, Ok, Err, Result}
 use Rattle.logic.specs.Books.{Book}
 use Rattle.orders.specs.Masks.{Preference}
 use Rattle.judge.specs.declared.used.Used.{Used}
-use Rattle.judge.specs.Members.{members}
+use Rattle.judge.specs.Members.{member_count}
 use Rattle.judge.specs.Refutations.{RefuteAnswer}
-use Rattle.judge.specs.Shows.{ShowPromise}
+use Rattle.judge.specs.ShowAnswers.{ShowPromise}
 use Rattle.verdict.specs.declared.mark_fault.MarkFault.{MarkFault}
 use Rattle.verdict.specs.declared.mark_fault.MarkFault.TheVariants.{Check, Pairs, Refute, Show}
 use Rattle.verdict.specs.MarkFaults.{mark_fault_number, mark_fault_place}
-use Rattle.verdict.specs.Marks.{room, places, TableauAnswer, ModelAnswer}
+use Rattle.verdict.specs.Marks.{marker_lists, marker_sets, TableauAnswer, ModelAnswer}
 use Rattle.repeats.specs.declared.repeat.Outcome.{Outcome}
 
 -- the ways to keep a book that take memory: 1 is a slot table, 2 a journal
@@ -30,26 +30,26 @@ outcome_of (Err f) = record { kind = 2; number = mark_fault_number f; place = ma
 
 -- how many entries of the book a tableau uses, or why it is refused
 abbrev pub RefutedBy : Book → List ℕ → Result ℕ MarkFault → Type 0
-RefutedBy bk ss (Ok n) = (u : Used) × RefuteAnswer bk room ss (Ok u) × (n ≡ members u)
+RefutedBy bk ss (Ok n) = (u : Used) × RefuteAnswer bk marker_lists ss (Ok u) × (n ≡ member_count u)
 RefutedBy bk ss (Err (Check f)) = ⊥
 RefutedBy bk ss (Err (Pairs f)) = ⊥
-RefutedBy bk ss (Err (Refute f)) = RefuteAnswer bk room ss (Err f)
+RefutedBy bk ss (Err (Refute f)) = RefuteAnswer bk marker_lists ss (Err f)
 RefutedBy bk ss (Err (Show f)) = ⊥
 
 -- how many elements a model of the book has, or why it is refused
 abbrev pub SatisfiedBy : Book → List ℕ → Preference → Result ℕ MarkFault → Type 0
-SatisfiedBy bk ms o (Ok n) = (list : List ℕ) × ShowPromise bk ms o places list (Ok n)
+SatisfiedBy bk ms o (Ok n) = (list : List ℕ) × ShowPromise bk ms o marker_sets list (Ok n)
 SatisfiedBy bk ms o (Err (Check f)) = ⊥
 SatisfiedBy bk ms o (Err (Pairs f)) = ⊥
 SatisfiedBy bk ms o (Err (Refute f)) = ⊥
-SatisfiedBy bk ms o (Err (Show f)) = (list : List ℕ) × ShowPromise bk ms o places list (Err f)
+SatisfiedBy bk ms o (Err (Show f)) = (list : List ℕ) × ShowPromise bk ms o marker_sets list (Err f)
 
 -- what the marker answers to the bytes, whichever way the book is kept; or, of a book that takes memory, that there
 -- was none
-abbrev pub TableauTold : ℕ → List ℕ → List ℕ → Outcome → Type 0
-TableauTold kept bs ss o =
+abbrev pub TableauOutcome : ℕ → List ℕ → List ℕ → Outcome → Type 0
+TableauOutcome kept bs ss o =
     ((o ≡ no_memory) × InMemory kept) ⊎ ((r : Result ℕ MarkFault) × TableauAnswer bs ss r × (o ≡ outcome_of r))
 
-abbrev pub ModelTold : ℕ → List ℕ → List ℕ → List ℕ → Outcome → Type 0
-ModelTold kept bs ms ps o =
+abbrev pub ModelOutcome : ℕ → List ℕ → List ℕ → List ℕ → Outcome → Type 0
+ModelOutcome kept bs ms ps o =
     ((o ≡ no_memory) × InMemory kept) ⊎ ((r : Result ℕ MarkFault) × ModelAnswer bs ms ps r × (o ≡ outcome_of r))

@@ -2,7 +2,7 @@
 // where there is no memory, there is no copy.
 ghost use Rattle.std.specs.Prelude.{◌≡◌, ◌+◌, ◌<◌, length, IfSome};
 ghost use Rattle.logic.specs.Books.{empty};
-ghost use Rattle.repeats.specs.Copies.{first_nodes, first_lines};
+ghost use Rattle.repeats.specs.Copies.{copied_nodes, copied_entries};
 
 use books::book::{EditableBook, ReadableBook};
 use logic::records::{RawEntry, RawNode};
@@ -11,7 +11,7 @@ use std::alloc::Global;
 // The nodes, into an empty book.
 fn copy_nodes<B: ReadableBook, W: EditableBook>(book: &B, copy: &mut W) -> Option<()>
     requires { W.ReadableBook.meaning copy.old ≡ empty }
-    ensures { IfSome result (λ _. W.ReadableBook.meaning copy.new ≡ first_lines (B.meaning book.now) 0) }
+    ensures { IfSome result (λ _. W.ReadableBook.meaning copy.new ≡ copied_entries (B.meaning book.now) 0) }
 {
     for i in 0..book.node_count() {
         if copy.node(RawNode::from(book.node_at(i))).is_err() {
@@ -22,16 +22,16 @@ fn copy_nodes<B: ReadableBook, W: EditableBook>(book: &B, copy: &mut W) -> Optio
 }
 
 // Entry j with its mark, behind those before it.
-fn copy_line<B: ReadableBook, W: EditableBook>(book: &B, j: u16, copy: &mut W) -> Option<()>
-    requires there { j < length (B.meaning book.now).lines }
-    requires before { W.ReadableBook.meaning copy.old ≡ first_lines (B.meaning book.now) j }
-    ensures { IfSome result (λ _. W.ReadableBook.meaning copy.new ≡ first_lines (B.meaning book.now) (j + 1)) }
+fn copy_entry<B: ReadableBook, W: EditableBook>(book: &B, j: u16, copy: &mut W) -> Option<()>
+    requires within { j < length (B.meaning book.now).entries }
+    requires before { W.ReadableBook.meaning copy.old ≡ copied_entries (B.meaning book.now) j }
+    ensures { IfSome result (λ _. W.ReadableBook.meaning copy.new ≡ copied_entries (B.meaning book.now) (j + 1)) }
 {
-    let line = book.entry_at(j);
-    let Ok(entry) = copy.enter(RawEntry::from(line.entry)) else {
+    let stored = book.entry_at(j);
+    let Ok(entry) = copy.enter(RawEntry::from(stored.entry)) else {
         return None;
     };
-    if line.live {
+    if stored.live {
         return Some(());
     }
     match copy.strike(entry) {
@@ -41,12 +41,12 @@ fn copy_line<B: ReadableBook, W: EditableBook>(book: &B, j: u16, copy: &mut W) -
 }
 
 // The entries with their marks, behind the nodes.
-fn copy_lines<B: ReadableBook, W: EditableBook>(book: &B, copy: &mut W) -> Option<()>
-    requires { W.ReadableBook.meaning copy.old ≡ first_lines (B.meaning book.now) 0 }
+fn copy_entries<B: ReadableBook, W: EditableBook>(book: &B, copy: &mut W) -> Option<()>
+    requires { W.ReadableBook.meaning copy.old ≡ copied_entries (B.meaning book.now) 0 }
     ensures { IfSome result (λ _. W.ReadableBook.meaning copy.new ≡ B.meaning book.now) }
 {
     for j in 0..book.entry_count() {
-        copy_line(book, j, copy)?;
+        copy_entry(book, j, copy)?;
     }
     Some(())
 }
@@ -57,6 +57,6 @@ pub(crate) fn copied<B: ReadableBook, W: EditableBook>(heap: Global, book: &B) -
 {
     let mut copy = W::new(heap).ok()?;
     copy_nodes(book, &mut copy)?;
-    copy_lines(book, &mut copy)?;
+    copy_entries(book, &mut copy)?;
     Some(copy)
 }

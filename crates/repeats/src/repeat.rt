@@ -1,7 +1,7 @@
 // A hand-in judged again and again against one book.
 ghost use Rattle.std.specs.Prelude.{◌≡◌, MatchOption};
 ghost use Rattle.verdict.specs.Marks.{TableauAnswer, ModelAnswer};
-ghost use Rattle.repeats.specs.Outcomes.{InMemory, outcome_of, RefutedBy, SatisfiedBy, TableauTold, ModelTold};
+ghost use Rattle.repeats.specs.Outcomes.{InMemory, outcome_of, RefutedBy, SatisfiedBy, TableauOutcome, ModelOutcome};
 
 use crate::copy::copied;
 use books::book::ReadableBook;
@@ -164,7 +164,7 @@ pub extern "C" fn vuhlaten_repeat_tableau(
     book: &[u8],
     steps: &[u8],
 ) -> Outcome
-    ensures { TableauTold kept book.now steps.now result }
+    ensures { TableauOutcome kept book.now steps.now result }
 {
     match tableau(heap, kept, times, book, steps) {
         Some(Ok(entries)) => accepted(entries as u32),
@@ -183,7 +183,7 @@ pub extern "C" fn vuhlaten_repeat_model(
     bytes: &[u8],
     pairs: &[u8],
 ) -> Outcome
-    ensures { ModelTold kept book.now bytes.now pairs.now result }
+    ensures { ModelOutcome kept book.now bytes.now pairs.now result }
 {
     match model(heap, kept, times, book, bytes, pairs) {
         Some(Ok(elements)) => accepted(elements as u32),

@@ -18,9 +18,9 @@ use Rattle.sealed.specs.declared.faults.CheckFault.TheVariants as checks
 use Rattle.sealed.specs.Writing.{records_length, Sealed}
 use Rattle.sealed.specs.Faults.{check_fault_number}
 use Rattle.sealed.specs.Reading.{byte_at, sealed_book}
-use Rattle.sealed.specs.Checks.{Granted, Passes, FirstRefused, Bad, CheckAnswer}
-use Rattle.sealed.specs.Frames.{Trailed}
-use Rattle.sealed.specs.Steps.{Marks, NodesGranted, NodeFirstRefused, EntriesChecked, FrameChecked}
+use Rattle.sealed.specs.Checks.{AllGranted, Passes, FirstRefused, Bad, CheckAnswer}
+use Rattle.sealed.specs.Frames.{EndsInTrailer}
+use Rattle.sealed.specs.Steps.{PlainMarks, NodesGranted, NodeFirstRefused, EntriesChecked, FrameChecked}
 use Rattle.sealed.proofs.Passing.{passed_sealed}
 use Rattle.sealed.proofs.Sealing.{sealed_passes}
 
@@ -36,13 +36,13 @@ pub judged_err : {T : Type 0} {n : ℕ} (x : T) (r : Result T Unfit) (m : Result
 judged_err {n = n} x r m P j f h e = let was = mapped_err r m f P h e in (was.0, was.2, subst (Judged n x) was.1 j)
 
 -- marks of no node
-pub no_marks : (n : ℕ) → Marks (replicate n true) []
+pub no_marks : (n : ℕ) → PlainMarks (replicate n true) []
 no_marks zero k = refl
 no_marks (suc n) zero = refl
 no_marks (suc n) (suc k) = no_marks n k
 
 -- one mark more
-pub marks_more : (marks : List Bool) (ns : List Node) (n : Node) (i : ℕ) (mark : Bool) → i < length marks → length ns ≡ i → mark ≡ plain (read (concepts ns) n) → Marks marks ns → Marks (set marks i mark) (ns ++ n ∷ [])
+pub marks_more : (marks : List Bool) (ns : List Node) (n : Node) (i : ℕ) (mark : Bool) → i < length marks → length ns ≡ i → mark ≡ plain (read (concepts ns) n) → PlainMarks marks ns → PlainMarks (set marks i mark) (ns ++ n ∷ [])
 marks_more marks ns n i mark room count is marked k = elim (cases_eq k i) [
   | inl e ↦
       (subst (λ j. get_or (set marks i mark) j true ≡ plain (of (concepts (ns ++ n ∷ [])) j)) (sym e)
@@ -53,7 +53,7 @@ marks_more marks ns n i mark room count is marked k = elim (cases_eq k i) [
 ]
 
 -- one record more is granted
-pub granted_more : (refusal : ℕ → ℕ) (i : ℕ) → Granted refusal i → refusal i ≡ 0 → Granted refusal (i + 1)
+pub granted_more : (refusal : ℕ → ℕ) (i : ℕ) → AllGranted refusal i → refusal i ≡ 0 → AllGranted refusal (i + 1)
 granted_more refusal i g h k l = elim (cases_lt k i) [ inl below ↦ g k below | inr above ↦ (let e : i ≡ k = omega arith in subst (λ j. refusal j ≡ 0) e h) ]
 
 -- no fault has number 0
@@ -65,8 +65,8 @@ check_fault_not_0 (checks.BadRecord unfit.NoSuchNode n) h = omega arith
 check_fault_not_0 (checks.BadRecord unfit.TypicalMisplaced n) h = omega arith
 
 -- a record that is refused is not granted
-not_granted : (refusal : ℕ → ℕ) (n from size : ℕ) (f : CheckFault) → FirstRefused refusal n from size f → Granted refusal n → ⊥
-not_granted refusal n from size f first g = check_fault_not_0 f (sym first.number ∙ g first.which first.there)
+not_granted : (refusal : ℕ → ℕ) (n from size : ℕ) (f : CheckFault) → FirstRefused refusal n from size f → AllGranted refusal n → ⊥
+not_granted refusal n from size f first g = check_fault_not_0 f (sym first.number ∙ g first.which first.within)
 
 -- bytes with something wrong do not pass, whatever the counts
 bad_fails : (bs : List ℕ) (n m : ℕ) (f : CheckFault) → Bad bs f → Passes bs n m → ⊥
@@ -91,7 +91,7 @@ pub fits_is : (room n n' m m' d d' : ℕ) → n ≡ n' → m ≡ m' → d ≡ d'
 fits_is room n n' m m' d d' nodes entries far = λ i. leb (nodes i) 512 && (leb (entries i) 256 && (eqb (far i) (records_length (nodes i) (entries i)) && leb (far i) room))
 
 -- what is wrong with the bytes of a frame, by the record that is refused
-module _ (bs : List ℕ) (f : Frame) (is : f.bytes.now ≡ bs) (t : Trailed f) (fault : CheckFault) where
+module _ (bs : List ℕ) (f : Frame) (is : f.bytes.now ≡ bs) (t : EndsInTrailer f) (fault : CheckFault) where
   pub bad_node : NodeFirstRefused f fault → Bad bs fault
   bad_node first = subst (λ b. Bad b fault) is (Bad.node t.fits t.nodes_are t.entries_are first)
 

@@ -6,19 +6,19 @@ use Rattle.logic.specs.Lawful.{Lawful}
 use Rattle.logic.proofs.Lawfulness.{lawful_empty}
 use Rattle.sealed.specs.declared.frame.Frame.{Frame}
 use Rattle.sealed.specs.declared.faults.CheckFault.{CheckFault}
-use Rattle.sealed.specs.Writing.{written, Sealed, SealedAs}
+use Rattle.sealed.specs.Writing.{book_bytes, Sealed, SealedAs}
 use Rattle.sealed.specs.Reading.{byte_at, sealed_book, node_start, entry_start}
 use Rattle.sealed.specs.Checks.{Passes, Opened, RoundTrip}
 use Rattle.sealed.specs.Frames.{book_in}
-use Rattle.sealed.specs.Steps.{Stands, FrameChecked}
-use Rattle.sealed.proofs.Rows.{nodes_in_none, lines_in_none}
+use Rattle.sealed.specs.Steps.{PassesOrEmpty, FrameChecked}
+use Rattle.sealed.proofs.Rows.{nodes_in_none, entries_in_none}
 use Rattle.sealed.proofs.Passing.{passed_lawful, passed_sealed}
 use Rattle.sealed.proofs.Sealing.{sealed_passes, sealed_reads}
 use Rattle.sealed.proofs.Checking.{bad_unsealed}
 
 -- a book of no records is empty
 pub no_records : (bs : List ℕ) → sealed_book bs 0 0 ≡ empty
-no_records bs = λ i. record { nodes = nodes_in_none bs (node_start bs 0 0) i; lines = lines_in_none bs (entry_start bs 0) i }
+no_records bs = λ i. record { nodes = nodes_in_none bs (node_start bs 0 0) i; entries = entries_in_none bs (entry_start bs 0) i }
 
 pub stood_lawful : (bs : List ℕ) (n m : ℕ) → Passes bs n m ⊎ ((n ≡ 0) × (m ≡ 0)) → Lawful (sealed_book bs n m)
 stood_lawful bs n m (inl p) = passed_lawful bs n m p
@@ -29,7 +29,7 @@ pub passed_reads : (bs : List ℕ) (n m : ℕ) → Passes bs n m → (bk : Book)
 passed_reads bs n m p bk sealed =
     let q = sealed_passes bs bk sealed in
     let same-n : length bk.nodes ≡ n = q.nodes_are ∙ sym p.nodes_are in
-    let same-m : length bk.lines ≡ m = q.entries_are ∙ sym p.entries_are in
+    let same-m : length bk.entries ≡ m = q.entries_are ∙ sym p.entries_are in
     subst (λ k. sealed_book bs k m ≡ bk) same-n (subst (λ k. sealed_book bs (length bk.nodes) k ≡ bk) same-m (sealed_reads bs bk sealed))
 
 -- one book is sealed in bytes
@@ -52,7 +52,7 @@ module _ (f : Frame) (h : Counted f) where
   abbrev stood : Passes f.bytes.now f.counts.nodes f.counts.entries ⊎ ((f.counts.nodes ≡ 0) × (f.counts.entries ≡ 0))
   stood = elim h [ inl p ↦ inl p | inr z ↦ inr (z.0, z.1) ]
 
-  pub counted_stands : Stands f.bytes.now f.counts.nodes f.counts.entries
+  pub counted_stands : PassesOrEmpty f.bytes.now f.counts.nodes f.counts.entries
   counted_stands = ∣ stood ∣₁
 
   pub counted_lawful : Lawful (book_in f)
@@ -65,11 +65,11 @@ module _ (f : Frame) (h : Counted f) where
   ]
 
 -- the writing of a lawful book by itself
-pub round_trip : (bk : Book) → Lawful bk → (bytes : List ℕ) → bytes ≡ written bk → RoundTrip bk bytes
+pub round_trip : (bk : Book) → Lawful bk → (bytes : List ℕ) → bytes ≡ book_bytes bk → RoundTrip bk bytes
 round_trip bk lawful bytes is =
     let sealed : SealedAs bytes bk = record { lawful = lawful; note = []; is = is } in
     record {
       sealed = sealed;
       only = λ other as-other. sealed_once bytes other bk as-other sealed;
-      same = λ bs before none. is ∙ sym (before.is ∙ ap (λ note. note ++ written bk) none);
+      same = λ bs before none. is ∙ sym (before.is ∙ ap (λ note. note ++ book_bytes bk) none);
     }

@@ -5,10 +5,10 @@ use Rattle.std.proofs.lemmas.Bool.Decides.{nat_tests}
 use Rattle.logic.specs.declared.records.Node.{Node}
 use Rattle.logic.specs.declared.records.Entry.{Entry}
 use Rattle.logic.specs.declared.records.Entry.TheVariants as entry
-use Rattle.logic.specs.declared.records.Line.{Line}
+use Rattle.logic.specs.declared.records.StoredEntry.{StoredEntry}
 use Rattle.logic.specs.Written.{node_kind, node_a, node_b, entry_kind, entry_a, entry_b, entry_c, WritesNode, WritesEntry}
-use Rattle.logic.specs.Lawful.{entry_known}
-use Rattle.sealed.specs.Writing.{u16_bytes, node_bytes, line_bytes}
+use Rattle.logic.specs.Lawful.{is_entry}
+use Rattle.sealed.specs.Writing.{u16_bytes, node_bytes, entry_bytes}
 use Rattle.sealed.specs.Reading.{byte_at, u16_at, raw_node_at, raw_entry_at}
 use Rattle.sealed.proofs.Numbers.{byte_written, u16_from, low_byte, high_byte, bytes_from}
 
@@ -23,7 +23,7 @@ module _ (bs rest : List ℕ) (from : ℕ) where
       }
 
   -- the kinds of entries are below 16
-  small_kind : (e : Entry) → entry_known e ≡ true → entry_kind e < 16
+  small_kind : (e : Entry) → is_entry e ≡ true → entry_kind e < 16
   small_kind (entry.Inclusion c d) h = omega arith
   small_kind (entry.Fact x c) h = omega arith
   small_kind (entry.RoleFact r x y) h = omega arith
@@ -33,10 +33,10 @@ module _ (bs rest : List ℕ) (from : ℕ) where
   kind_and_mark kind true h byte e = (grind (arith, nat_tests), grind (arith, nat_tests))
   kind_and_mark kind false h byte e = (grind (arith, nat_tests), grind (arith, nat_tests))
 
-  pub line_reads : (l : Line) → entry_known l.entry ≡ true → drop from bs ≡ line_bytes l ++ rest → WritesEntry (raw_entry_at bs from) l.entry × (ltb (byte_at bs from) 16 ≡ l.live)
-  line_reads l known is =
+  pub entry_reads : (l : StoredEntry) → is_entry l.entry ≡ true → drop from bs ≡ entry_bytes l ++ rest → WritesEntry (raw_entry_at bs from) l.entry × (ltb (byte_at bs from) 16 ≡ l.live)
+  entry_reads l known is =
       let e = l.entry in
-      let at : (k j : ℕ) → from + k ≡ j → byte_at bs j ≡ byte_at (line_bytes l ++ rest) k = λ k j e. byte_written bs (line_bytes l ++ rest) from k j e is in
+      let at : (k j : ℕ) → from + k ≡ j → byte_at bs j ≡ byte_at (entry_bytes l ++ rest) k = λ k j e. byte_written bs (entry_bytes l ++ rest) from k j e is in
       let km = kind_and_mark (entry_kind e) l.live (small_kind e known) (byte_at bs from) (at 0 from (omega arith)) in (
         record {
           kind = km.0;
@@ -68,8 +68,8 @@ module _ (bs : List ℕ) (bytes : (k : ℕ) → byte_at bs k < 256) (from : ℕ)
   whole_kind : (byte kind : ℕ) → cond (ltb byte 16) byte (byte - 16) ≡ kind → byte ≡ kind + cond (ltb byte 16) 0 16
   whole_kind byte kind is = grind (arith, nat_tests)
 
-  pub line_writes : (e : Entry) → WritesEntry (raw_entry_at bs from) e → from + 7 ≤ length bs → take 7 (drop from bs) ≡ line_bytes (record { entry = e; live = ltb (byte_at bs from) 16 })
-  line_writes e w within =
+  pub entry_writes : (e : Entry) → WritesEntry (raw_entry_at bs from) e → from + 7 ≤ length bs → take 7 (drop from bs) ≡ entry_bytes (record { entry = e; live = ltb (byte_at bs from) 16 })
+  entry_writes e w within =
       let kind = whole_kind (byte_at bs from) (entry_kind e) w.kind in
       let two : ℕ → List ℕ = λ k. map (byte_at bs) (k ∷ (k + 1) ∷ []) in
       let a = two_bytes (from + 1) (entry_a e) w.a in

@@ -3,7 +3,7 @@ use Rattle.std.proofs.Common.{◌≡◌, ℕ, ◌+◌, ◌<◌, List, ◌++◌, 
 use Rattle.std.specs.List.{flat_map}
 use Rattle.std.proofs.lemmas.List.{append_assoc, length-append, take_at, drop-drop, take_more, flat_map_more, drop_at, take_all}
 use Rattle.logic.specs.Books.{Book}
-use Rattle.sealed.specs.Writing.{node_bytes, line_bytes, trailer_bytes, written}
+use Rattle.sealed.specs.Writing.{node_bytes, entry_bytes, trailer_bytes, book_bytes}
 
 -- the front of a buffer is written, up to here, and the rest is as it was
 pub record Front (front rest out : List ℕ) (at : ℕ) : Type 0 where
@@ -34,9 +34,9 @@ module _ {X : Type 0} (f : X → List ℕ) (before rest out : List ℕ) (at : �
   records_all end = subst (λ ys. Front (before ++ flat_map f ys) rest out at) (take_all i xs (omega arith)) h
 
 -- nodes, entries and trailer, one behind the other, are the writing of the book
-pub whole_written : (bk : Book) (rest out : List ℕ) (at : ℕ) {trailer : List ℕ} → trailer ≡ trailer_bytes (length bk.nodes) (length bk.lines) → Front ((flat_map node_bytes bk.nodes ++ flat_map line_bytes bk.lines) ++ trailer) rest out at → Front (written bk) rest out at
-unfolding written
+pub whole_written : (bk : Book) (rest out : List ℕ) (at : ℕ) {trailer : List ℕ} → trailer ≡ trailer_bytes (length bk.nodes) (length bk.entries) → Front ((flat_map node_bytes bk.nodes ++ flat_map entry_bytes bk.entries) ++ trailer) rest out at → Front (book_bytes bk) rest out at
+unfolding book_bytes
 whole_written bk rest out at {trailer} is =
     let ns = flat_map node_bytes bk.nodes in
-    let ls = flat_map line_bytes bk.lines in
+    let ls = flat_map entry_bytes bk.entries in
     subst (λ front. Front front rest out at) (append_assoc ns ls trailer ∙ ap (λ t. ns ++ (ls ++ t)) is)

@@ -7,36 +7,36 @@ use Rattle.logic.specs.Lengths.{bad_length_number, bad_length_place}
 use Rattle.logic.specs.Books.{Book, empty}
 use Rattle.sealed.specs.declared.faults.CheckFault.{CheckFault}
 use Rattle.sealed.specs.Faults.{check_fault_number, check_fault_place}
-use Rattle.sealed.specs.Writing.{written, Sealed, SealedAs}
-use Rattle.sealed.specs.Reading.{framed, node_total, entry_total, node_start, entry_start, nodes_in, node_refusal_in, entry_refusal_in}
+use Rattle.sealed.specs.Writing.{book_bytes, Sealed, SealedAs}
+use Rattle.sealed.specs.Reading.{has_trailer, node_total, entry_total, node_start, entry_start, nodes_in, node_refusal_in, entry_refusal_in}
 
 -- each of the first n records is granted
-abbrev pub Granted : (ℕ → ℕ) → ℕ → Type 0
-Granted refusal n = (i : ℕ) → i < n → refusal i ≡ 0
+abbrev pub AllGranted : (ℕ → ℕ) → ℕ → Type 0
+AllGranted refusal n = (i : ℕ) → i < n → refusal i ≡ 0
 
 -- The trailer fits, has these counts, and every record is granted in its turn.
 pub record Passes (bs : List ℕ) (n m : ℕ) : Type 0 where
-  pub fits : framed bs ≡ true
+  pub fits : has_trailer bs ≡ true
   pub nodes_are : n ≡ node_total bs
   pub entries_are : m ≡ entry_total bs
-  pub nodes : Granted (node_refusal_in bs (node_start bs n m)) n
-  pub entries : Granted (entry_refusal_in bs (nodes_in bs (node_start bs n m) n) (entry_start bs m)) m
+  pub nodes : AllGranted (node_refusal_in bs (node_start bs n m)) n
+  pub entries : AllGranted (entry_refusal_in bs (nodes_in bs (node_start bs n m) n) (entry_start bs m)) m
 
 -- Of n records from an offset on, each of `size` bytes, this one is the first that is refused.
 pub record FirstRefused (refusal : ℕ → ℕ) (n from size : ℕ) (f : CheckFault) : Type 0 where
   pub which : ℕ
-  pub there : which < n
-  pub before : Granted refusal which
+  pub within : which < n
+  pub before : AllGranted refusal which
   pub number : refusal which ≡ check_fault_number f
   pub place : check_fault_place f ≡ from + size * which
 
 -- the trailer does not fit; or a node is the first bad record; or all nodes are good and an entry is
 pub data Bad (bs : List ℕ) (f : CheckFault) : Type 0 where
-  frame : framed bs ≡ false → check_fault_number f ≡ 19 → check_fault_place f ≡ length bs → Bad bs f
-  node : {n m : ℕ} → framed bs ≡ true → n ≡ node_total bs → m ≡ entry_total bs →
+  frame : has_trailer bs ≡ false → check_fault_number f ≡ 19 → check_fault_place f ≡ length bs → Bad bs f
+  node : {n m : ℕ} → has_trailer bs ≡ true → n ≡ node_total bs → m ≡ entry_total bs →
       FirstRefused (node_refusal_in bs (node_start bs n m)) n (node_start bs n m) 5 f → Bad bs f
-  entry : {n m : ℕ} → framed bs ≡ true → n ≡ node_total bs → m ≡ entry_total bs →
-      Granted (node_refusal_in bs (node_start bs n m)) n →
+  entry : {n m : ℕ} → has_trailer bs ≡ true → n ≡ node_total bs → m ≡ entry_total bs →
+      AllGranted (node_refusal_in bs (node_start bs n m)) n →
       FirstRefused (entry_refusal_in bs (nodes_in bs (node_start bs n m) n) (entry_start bs m)) m (entry_start bs m) 7 f → Bad bs f
 
 -- passed: the bytes are a sealed book; refused: they are none, and this is the first thing wrong
@@ -47,9 +47,9 @@ CheckAnswer bs (Err f) = (Sealed bs → ⊥) × Bad bs f
 -- sealed: the writing stands at the front of the buffer, the rest of which is as it was; refused:
 -- the buffer is too short for the writing, and nothing changed
 abbrev pub SealAnswer : Book → List ℕ → List ℕ → Result ℕ (BadLength 20) → Type 0
-SealAnswer bk out out' (Ok n) = (n ≡ length (written bk)) × (out' ≡ written bk ++ drop n out)
+SealAnswer bk out out' (Ok n) = (n ≡ length (book_bytes bk)) × (out' ≡ book_bytes bk ++ drop n out)
 SealAnswer bk out out' (Err f) =
-    (length out < length (written bk)) × (bad_length_number f ≡ 20) × (bad_length_place f ≡ length out) × (out' ≡ out)
+    (length out < length (book_bytes bk)) × (bad_length_number f ≡ 20) × (bad_length_place f ≡ length out) × (out' ≡ out)
 
 -- what a book that was sealed in these bytes is when they are opened, and what no sealed book is
 pub record Opened (bs : List ℕ) (bk : Book) : Type 0 where

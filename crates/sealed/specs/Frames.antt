@@ -2,10 +2,10 @@
 -- Assumes nothing.
 use Rattle.std.specs.Prelude.{◌≡◌, ℕ, ◌+◌, ◌*◌, true, List}
 use Rattle.logic.specs.declared.records.Node.{Node}
-use Rattle.logic.specs.declared.records.Line.{Line}
+use Rattle.logic.specs.declared.records.StoredEntry.{StoredEntry}
 use Rattle.logic.specs.Books.{Book}
 use Rattle.sealed.specs.declared.frame.Frame.{Frame}
-use Rattle.sealed.specs.Reading.{node_start, entry_start, nodes_in, lines_in, node_total, entry_total, framed, sealed_book}
+use Rattle.sealed.specs.Reading.{node_start, entry_start, nodes_in, entries_in, node_total, entry_total, has_trailer, sealed_book}
 
 -- where node i begins, and where entry j does
 abbrev pub node_place : Frame → ℕ → ℕ
@@ -18,15 +18,15 @@ entry_place f j = entry_start f.bytes.now f.counts.entries + 7 * j
 abbrev pub first_nodes : Frame → ℕ → List Node
 first_nodes f i = nodes_in f.bytes.now (node_start f.bytes.now f.counts.nodes f.counts.entries) i
 
-abbrev pub first_lines : Frame → ℕ → List Line
-first_lines f j = lines_in f.bytes.now (entry_start f.bytes.now f.counts.entries) j
+abbrev pub first_entries : Frame → ℕ → List StoredEntry
+first_entries f j = entries_in f.bytes.now (entry_start f.bytes.now f.counts.entries) j
 
 -- all nodes and entries
 abbrev pub book_in : Frame → Book
 book_in f = sealed_book f.bytes.now f.counts.nodes f.counts.entries
 
 -- the bytes end in a trailer that fits, and the counts are those of the trailer
-pub record Trailed (f : Frame) : Type 0 where
-  pub fits : framed f.bytes.now ≡ true
+pub record EndsInTrailer (f : Frame) : Type 0 where
+  pub fits : has_trailer f.bytes.now ≡ true
   pub nodes_are : f.counts.nodes ≡ node_total f.bytes.now
   pub entries_are : f.counts.entries ≡ entry_total f.bytes.now

@@ -1,5 +1,5 @@
 -- How sealed bytes are read: the numbers at an offset, the records, and the trailer.
--- nodes_in, lines_in: the records from an offset on. framed: the trailer fits the bytes.
+-- nodes_in, entries_in: the records from an offset on. has_trailer: the trailer fits the bytes.
 -- sealed_book: the book of given counts that ends before the trailer.
 -- Assumes nothing.
 use Rattle.std.specs.Prelude.{ℕ, ◌+◌, ◌-◌, ◌*◌, Bool, cond, ◌&&◌, List, [], map, length, ◌==◌, nat_le, nat_lt, slice_index}
@@ -7,7 +7,7 @@ use Rattle.std.specs.List.{range_with_len}
 use Rattle.logic.specs.declared.records.Node.{Node}
 use Rattle.logic.specs.declared.records.RawNode.{RawNode}
 use Rattle.logic.specs.declared.records.RawEntry.{RawEntry}
-use Rattle.logic.specs.declared.records.Line.{Line}
+use Rattle.logic.specs.declared.records.StoredEntry.{StoredEntry}
 use Rattle.logic.specs.Written.{node_of, entry_of}
 use Rattle.logic.specs.Books.{Book}
 use Rattle.logic.specs.Refusals.{node_refusal, entry_refusal}
@@ -34,16 +34,16 @@ raw_entry_at bs i =
     record { kind = cond (nat_lt (byte_at bs i) 16) (byte_at bs i) (byte_at bs i - 16); a = u16_at bs (i + 1); b = u16_at bs (i + 3); c = u16_at bs (i + 5) }
 
 -- the entry with its live mark
-abbrev pub line_at_offset : List ℕ → ℕ → Line
-line_at_offset bs i = record { entry = entry_of (raw_entry_at bs i); live = nat_lt (byte_at bs i) 16 }
+abbrev pub stored_at_offset : List ℕ → ℕ → StoredEntry
+stored_at_offset bs i = record { entry = entry_of (raw_entry_at bs i); live = nat_lt (byte_at bs i) 16 }
 
 -- n nodes from an offset on
 unfoldable pub nodes_in : List ℕ → ℕ → ℕ → List Node
 nodes_in bs from n = map (λ i. node_of (raw_node_at bs (from + 5 * i))) (range_with_len 0 n)
 
 -- n entries from an offset on, with their live marks
-unfoldable pub lines_in : List ℕ → ℕ → ℕ → List Line
-lines_in bs from n = map (λ i. line_at_offset bs (from + 7 * i)) (range_with_len 0 n)
+unfoldable pub entries_in : List ℕ → ℕ → ℕ → List StoredEntry
+entries_in bs from n = map (λ i. stored_at_offset bs (from + 7 * i)) (range_with_len 0 n)
 
 -- the trailer: both counts, and the distance back to the first node
 unfoldable pub node_total : List ℕ → ℕ
@@ -57,8 +57,8 @@ distance bs = u32_at bs (length bs - 4)
 
 -- There is a trailer, its counts are within the limits, and its distance is that of the counts and
 -- leads to a place within the bytes.
-abbrev pub framed : List ℕ → Bool
-framed bs =
+abbrev pub has_trailer : List ℕ → Bool
+has_trailer bs =
     nat_le 8 (length bs)
     && (nat_le (node_total bs) 512
     && (nat_le (entry_total bs) 256
@@ -74,12 +74,12 @@ entry_start bs m = length bs - 8 - 7 * m
 
 -- the book of n nodes and m entries before the trailer
 abbrev pub sealed_book : List ℕ → ℕ → ℕ → Book
-sealed_book bs n m = record { nodes = nodes_in bs (node_start bs n m) n; lines = lines_in bs (entry_start bs m) m }
+sealed_book bs n m = record { nodes = nodes_in bs (node_start bs n m) n; entries = entries_in bs (entry_start bs m) m }
 
 -- why node i is refused when it is offered to the book of the nodes before it; 0 where it is granted
 abbrev pub node_refusal_in : List ℕ → ℕ → ℕ → ℕ
-node_refusal_in bs from i = node_refusal (record { nodes = nodes_in bs from i; lines = [] }) (raw_node_at bs (from + 5 * i))
+node_refusal_in bs from i = node_refusal (record { nodes = nodes_in bs from i; entries = [] }) (raw_node_at bs (from + 5 * i))
 
 -- why entry j is refused when it is offered to the book of these nodes and the entries before it
 abbrev pub entry_refusal_in : List ℕ → List Node → ℕ → ℕ → ℕ
-entry_refusal_in bs ns from j = entry_refusal (record { nodes = ns; lines = lines_in bs from j }) (raw_entry_at bs (from + 7 * j))
+entry_refusal_in bs ns from j = entry_refusal (record { nodes = ns; entries = entries_in bs from j }) (raw_entry_at bs (from + 7 * j))

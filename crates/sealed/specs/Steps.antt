@@ -1,6 +1,6 @@
 -- What the steps of the check answer, and with which counts a sealed book stands.
 -- NodeChecked, NodesGranted, NodeFirstRefused, EntryChecked, EntriesChecked: one record of a frame, and all of them.
--- FrameChecked: the whole check. Stands: the invariant of an opened book.
+-- FrameChecked: the whole check. PassesOrEmpty: the invariant of an opened book.
 -- Assumes nothing.
 use Rattle.std.specs.Prelude.{◌≡◌, ℕ, Bool, true, ◌⊎◌, List, Ok, Err, Result, slice_index_or}
 use Rattle.logic.specs.declared.records.Node.{Node}
@@ -11,11 +11,11 @@ use Rattle.sealed.specs.declared.faults.CheckFault.{CheckFault}
 use Rattle.sealed.specs.Faults.{check_fault_number, check_fault_place}
 use Rattle.sealed.specs.Reading.{raw_node_at, node_start, entry_start, node_refusal_in, entry_refusal_in}
 use Rattle.sealed.specs.Frames.{node_place, entry_place, first_nodes}
-use Rattle.sealed.specs.Checks.{Granted, Passes, FirstRefused, Bad}
+use Rattle.sealed.specs.Checks.{AllGranted, Passes, FirstRefused, Bad}
 
 -- what of each node is known to be plain; past the end it is
-abbrev pub Marks : List Bool → List Node → Type 0
-Marks marks ns = (k : ℕ) → slice_index_or marks k true ≡ plain (of (concepts ns) k)
+abbrev pub PlainMarks : List Bool → List Node → Type 0
+PlainMarks marks ns = (k : ℕ) → slice_index_or marks k true ≡ plain (of (concepts ns) k)
 
 -- why node i is refused when it is offered to the book of the nodes before it; 0 where it is granted
 abbrev pub node_refused : Frame → ℕ → ℕ
@@ -37,14 +37,14 @@ EntryChecked f j (Err fault) = (entry_refused f j ≡ check_fault_number fault) 
 
 -- all nodes are granted, or one is the first that is refused
 abbrev pub NodesGranted : Frame → Type 0
-NodesGranted f = Granted (node_refused f) f.counts.nodes
+NodesGranted f = AllGranted (node_refused f) f.counts.nodes
 
 abbrev pub NodeFirstRefused : Frame → CheckFault → Type 0
 NodeFirstRefused f = FirstRefused (node_refused f) f.counts.nodes (node_start f.bytes.now f.counts.nodes f.counts.entries) 5
 
 -- all entries are granted, or one is the first that is refused
 abbrev pub EntriesChecked : Frame → Result (Unit {0}) CheckFault → Type 0
-EntriesChecked f (Ok u) = Granted (entry_refused f) f.counts.entries
+EntriesChecked f (Ok u) = AllGranted (entry_refused f) f.counts.entries
 EntriesChecked f (Err fault) = FirstRefused (entry_refused f) f.counts.entries (entry_start f.bytes.now f.counts.entries) 7 fault
 
 -- the frame of bytes that pass, or the first thing wrong with them
@@ -53,5 +53,5 @@ FrameChecked bs (Ok f) = (f.bytes.now ≡ bs) × Passes f.bytes.now f.counts.nod
 FrameChecked bs (Err fault) = Bad bs fault
 
 -- check passes with these counts, or both are 0
-abbrev pub Stands : List ℕ → ℕ → ℕ → Type 0
-Stands bs n m = ∥ Passes bs n m ⊎ ((n ≡ 0) × (m ≡ 0)) ∥₁
+abbrev pub PassesOrEmpty : List ℕ → ℕ → ℕ → Type 0
+PassesOrEmpty bs n m = ∥ Passes bs n m ⊎ ((n ≡ 0) × (m ≡ 0)) ∥₁

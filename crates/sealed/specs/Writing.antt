@@ -1,10 +1,10 @@
 -- How a book is written as bytes, and which bytes are a sealed book.
--- written: the nodes, the entries and a trailer. SealedAs: a note, and then the writing of a lawful book.
+-- book_bytes: the nodes, the entries and a trailer. SealedAs: a note, and then the writing of a lawful book.
 -- Assumes nothing.
 use Rattle.std.specs.Prelude.{◌≡◌, ℕ, ◌+◌, ◌*◌, ◌/◌, ◌%◌, cond, List, [], ◌∷◌, ◌++◌, length}
 use Rattle.std.specs.List.{flat_map}
 use Rattle.logic.specs.declared.records.Node.{Node}
-use Rattle.logic.specs.declared.records.Line.{Line}
+use Rattle.logic.specs.declared.records.StoredEntry.{StoredEntry}
 use Rattle.logic.specs.Written.{node_kind, node_a, node_b, entry_kind, entry_a, entry_b, entry_c}
 use Rattle.logic.specs.Books.{Book}
 use Rattle.logic.specs.Lawful.{Lawful}
@@ -22,8 +22,8 @@ abbrev pub node_bytes : Node → List ℕ
 node_bytes n = node_kind n ∷ (u16_bytes (node_a n) ++ u16_bytes (node_b n))
 
 -- an entry: 7 bytes; 16 is added to the kind when it is struck
-abbrev pub line_bytes : Line → List ℕ
-line_bytes l =
+abbrev pub entry_bytes : StoredEntry → List ℕ
+entry_bytes l =
     (entry_kind l.entry + cond l.live 0 16) ∷ (u16_bytes (entry_a l.entry) ++ (u16_bytes (entry_b l.entry) ++ u16_bytes (entry_c l.entry)))
 
 -- how many bytes n nodes and m entries have
@@ -34,14 +34,14 @@ records_length n m = 5 * n + 7 * m
 abbrev pub trailer_bytes : ℕ → ℕ → List ℕ
 trailer_bytes n m = u16_bytes n ++ (u16_bytes m ++ u32_bytes (records_length n m))
 
-unfoldable pub written : Book → List ℕ
-written bk = flat_map node_bytes bk.nodes ++ (flat_map line_bytes bk.lines ++ trailer_bytes (length bk.nodes) (length bk.lines))
+unfoldable pub book_bytes : Book → List ℕ
+book_bytes bk = flat_map node_bytes bk.nodes ++ (flat_map entry_bytes bk.entries ++ trailer_bytes (length bk.nodes) (length bk.entries))
 
 -- a note of any length, and then the writing of this book, which is lawful
 pub record SealedAs (bs : List ℕ) (bk : Book) : Type 0 where
   pub lawful : Lawful bk
   pub note : List ℕ
-  pub is : bs ≡ note ++ written bk
+  pub is : bs ≡ note ++ book_bytes bk
 
 -- the bytes are a sealed book
 abbrev pub Sealed : List ℕ → Type 0

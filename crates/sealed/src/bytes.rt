@@ -1,8 +1,8 @@
 // Numbers and records at an offset of the bytes, low byte first.
 ghost use Rattle.std.specs.Prelude.{◌≡◌, ◌+◌, ◌-◌, ◌<◌, ◌≤◌, ltb, length, if◌then◌else◌};
-ghost use Rattle.sealed.specs.Reading.{u16_at, u32_at, raw_node_at, raw_entry_at, line_at_offset};
+ghost use Rattle.sealed.specs.Reading.{u16_at, u32_at, raw_node_at, raw_entry_at, stored_at_offset};
 
-use logic::records::{Entry, Line, RawEntry, RawNode};
+use logic::records::{Entry, RawEntry, RawNode, StoredEntry};
 
 pub(crate) fn u16_at(bytes: &[u8], i: usize) -> u16
     requires { i + 1 < length bytes.now }
@@ -51,11 +51,11 @@ fn entry_kind(byte: u8) -> u8
 }
 
 // The entry that is written at an offset, with its live mark.
-pub(crate) fn line_at(bytes: &[u8], i: usize) -> Line
+pub(crate) fn stored_at(bytes: &[u8], i: usize) -> StoredEntry
     requires { i + 7 ≤ length bytes.now }
-    ensures { result ≡ line_at_offset bytes.now i }
+    ensures { result ≡ stored_at_offset bytes.now i }
 {
-    Line {
+    StoredEntry {
         entry: Entry::from(raw_entry_at(bytes, i)),
         live: bytes[i] < 16,
     }

@@ -2,15 +2,15 @@
 ghost use Rattle.std.specs.Prelude.{◌≡◌, ◌<◌, true, List, MatchResult, slice_index_or};
 ghost use Rattle.logic.specs.declared.records.Node.{Node};
 ghost use Rattle.logic.specs.Concepts.{concepts};
-ghost use Rattle.books.specs.Answers.{Tells};
+ghost use Rattle.books.specs.Answers.{IsPlainnessOf};
 ghost use Rattle.sealed.specs.Frames.{first_nodes};
 ghost use Rattle.sealed.specs.Checks.{CheckAnswer};
-ghost use Rattle.sealed.specs.Steps.{Marks, NodeChecked, NodesGranted, NodeFirstRefused, EntryChecked, EntriesChecked, FrameChecked};
+ghost use Rattle.sealed.specs.Steps.{PlainMarks, NodeChecked, NodesGranted, NodeFirstRefused, EntryChecked, EntriesChecked, FrameChecked};
 
 use crate::bytes::{raw_entry_at, raw_node_at};
 use crate::faults::CheckFault;
 use crate::frame::Frame;
-use books::offers::{Sides, judge_entry, judge_node, plain_node, typical_node};
+use books::offers::{PlainOperands, judge_entry, judge_node, plain_node, typical_node};
 
 // The mark of a node; past the last mark a node is plain.
 fn mark_at(marks: &[bool], i: u16) -> bool
@@ -20,10 +20,10 @@ fn mark_at(marks: &[bool], i: u16) -> bool
 }
 
 // Whether the nodes a and b are plain, by the marks of all: what books::marked::sides asks a book.
-fn sides(marks: &[bool], a: u16, b: u16) -> Sides
-    ensures { (ns : List Node) → Marks marks.now ns → Tells (concepts ns) a b result }
+fn plain_operands(marks: &[bool], a: u16, b: u16) -> PlainOperands
+    ensures { (ns : List Node) → PlainMarks marks.now ns → IsPlainnessOf (concepts ns) a b result }
 {
-    Sides {
+    PlainOperands {
         plain_a: mark_at(marks, a),
         plain_b: mark_at(marks, b),
     }
@@ -32,15 +32,17 @@ fn sides(marks: &[bool], a: u16, b: u16) -> Sides
 // Apart from the test of an entry, as the tests of both are.
 // Node i of a frame, by the marks of the nodes before it: its mark, or its fault.
 fn check_node(frame: &Frame, i: u16, marks: &[bool]) -> Result<bool, CheckFault>
-    requires there { i < frame.now.counts.nodes }
-    requires marked { Marks marks.now (first_nodes frame.now i) }
+    requires within { i < frame.now.counts.nodes }
+    requires marked { PlainMarks marks.now (first_nodes frame.now i) }
     ensures { NodeChecked frame.now i result }
 {
     let at = frame.node_place(i);
     let raw = raw_node_at(frame.bytes, at);
-    let sides = sides(marks, raw.a, raw.b);
-    let node = judge_node(i, sides, raw).map_err(|unfit| CheckFault::BadRecord(unfit, at))?;
-    Ok(plain_node(node, sides))
+    let plain_operands = plain_operands(marks, raw.a, raw.b);
+    let node = judge_node(i, plain_operands, raw).map_err(|unfit| CheckFault::BadRecord(
+        unfit, at,
+    ))?;
+    Ok(plain_node(node, plain_operands))
 }
 
 // A frame whose nodes were checked, with their marks: whether each is plain.
@@ -49,7 +51,7 @@ struct Marked<'a> {
     frame: Frame<'a>,
     marks: [bool; 512],
     ghost granted: { NodesGranted frame },
-    ghost marked: { Marks marks (first_nodes frame frame.counts.nodes) },
+    ghost marked: { PlainMarks marks (first_nodes frame frame.counts.nodes) },
 }
 
 // Checks the nodes of a frame.
@@ -73,8 +75,8 @@ impl<'a> Marked<'a> {
         let at = self.frame.entry_place(j);
         let raw = raw_entry_at(self.frame.bytes, at);
         let typical_a = typical_node(self.frame.node_at(raw.a));
-        let sides = sides(&self.marks, raw.a, raw.b);
-        let judged = judge_entry(self.frame.counts.nodes, typical_a, sides, raw);
+        let plain_operands = plain_operands(&self.marks, raw.a, raw.b);
+        let judged = judge_entry(self.frame.counts.nodes, typical_a, plain_operands, raw);
         judged.map_err(|unfit| CheckFault::BadRecord(unfit, at))?;
         Ok(())
     }

@@ -1,11 +1,11 @@
 // Bytes with the counts of the records that stand in them, right before a trailer.
 ghost use Rattle.std.specs.Prelude.{◌≡◌, ◌+◌, ◌-◌, ◌*◌, ◌<◌, ◌≤◌, false, ◌&&◌, length, MatchOption, ◌==◌, nat_le};
 ghost use Rattle.sealed.specs.Writing.{records_length};
-ghost use Rattle.sealed.specs.Reading.{framed};
+ghost use Rattle.sealed.specs.Reading.{has_trailer};
 
-use crate::bytes::{line_at, raw_node_at, u16_at, u32_at};
+use crate::bytes::{raw_node_at, stored_at, u16_at, u32_at};
 use crate::counts::Counts;
-use logic::records::{Line, NO_LINE, Node};
+use logic::records::{NO_STORED_ENTRY, Node, StoredEntry};
 
 // The counts are within the limits, and the bytes have room for the records and a trailer.
 #[derive(Clone, Copy)]
@@ -27,12 +27,12 @@ fn trailer_fits(len: usize, counts: Counts, distance: u32) -> bool
 }
 
 impl<'a> Frame<'a> {
-    ghost use Rattle.logic.specs.Books.{node_at, line_at};
-    ghost use Rattle.sealed.specs.Frames.{node_place, entry_place, book_in, Trailed};
+    ghost use Rattle.logic.specs.Books.{node_at, stored_at};
+    ghost use Rattle.sealed.specs.Frames.{node_place, entry_place, book_in, EndsInTrailer};
 
     // The bytes and both counts, where the trailer fits.
     pub(crate) fn read(bytes: &'a [u8]) -> Option<Frame<'a>>
-        ensures { MatchOption result (framed bytes.now ≡ false) (λ f. (f.bytes.now ≡ bytes.now) × Trailed f) }
+        ensures { MatchOption result (has_trailer bytes.now ≡ false) (λ f. (f.bytes.now ≡ bytes.now) × EndsInTrailer f) }
     {
         let len = bytes.len();
         if len < 8 {
@@ -90,13 +90,13 @@ impl<'a> Frame<'a> {
     }
 
     // Entry j with its live mark, or Absent and not live past the end.
-    #[tactic(auto, using(crate::proofs::Framing::frame_line, crate::proofs::Framing::frame_line_past))]
-    pub(crate) fn line_at(&self, j: u16) -> Line
-        ensures { result ≡ line_at (book_in self.now) j }
+    #[tactic(auto, using(crate::proofs::Framing::frame_entry, crate::proofs::Framing::frame_entry_past))]
+    pub(crate) fn stored_at(&self, j: u16) -> StoredEntry
+        ensures { result ≡ stored_at (book_in self.now) j }
     {
         if j >= self.counts.entries {
-            return NO_LINE;
+            return NO_STORED_ENTRY;
         }
-        line_at(self.bytes, self.entry_place(j))
+        stored_at(self.bytes, self.entry_place(j))
     }
 }

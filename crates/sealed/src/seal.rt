@@ -1,16 +1,16 @@
 // Writing a book as sealed bytes, without a note.
 ghost use Rattle.std.specs.Prelude.{◌≡◌, ◌+◌, ◌≤◌, true, ◌++◌, length, take, drop, IfOk};
-ghost use Rattle.logic.specs.Lawful.{entry_known};
-ghost use Rattle.sealed.specs.Writing.{node_bytes, line_bytes, trailer_bytes};
+ghost use Rattle.logic.specs.Lawful.{is_entry};
+ghost use Rattle.sealed.specs.Writing.{node_bytes, entry_bytes, trailer_bytes};
 ghost use Rattle.sealed.specs.Checks.{SealAnswer, RoundTrip};
 
 use crate::counts::Counts;
 use crate::faults::SealFault;
 use books::book::ReadableBook;
-use logic::records::{Line, Node, RawEntry, RawNode};
+use logic::records::{Node, RawEntry, RawNode, StoredEntry};
 use logic::refusal::BadLength;
 
-// A node is 5 bytes. This and the next two are no conversions by From: node and line are of another crate, and the
+// A node is 5 bytes. This and the next two are no conversions by From: node and entry are of another crate, and the
 // trailer is written as they are.
 fn node_bytes(node: Node) -> [u8; 5]
     ensures { result ≡ node_bytes node }
@@ -22,12 +22,12 @@ fn node_bytes(node: Node) -> [u8; 5]
 }
 
 // An entry is 7 bytes; its kind has 16 more where it is struck, as the format has it.
-fn line_bytes(line: Line) -> [u8; 7]
-    requires { entry_known line.entry ≡ true }
-    ensures { result ≡ line_bytes line }
+fn entry_bytes(stored: StoredEntry) -> [u8; 7]
+    requires { is_entry stored.entry ≡ true }
+    ensures { result ≡ entry_bytes stored }
 {
-    let raw = RawEntry::from(line.entry);
-    let kind = if line.live { raw.kind } else { raw.kind + 16 };
+    let raw = RawEntry::from(stored.entry);
+    let kind = if stored.live { raw.kind } else { raw.kind + 16 };
     let [a, aa] = raw.a.to_le_bytes();
     let [b, bb] = raw.b.to_le_bytes();
     let [c, cc] = raw.c.to_le_bytes();
@@ -75,7 +75,7 @@ pub fn seal<B: ReadableBook>(book: &B, out: &mut [u8]) -> Result<usize, SealFaul
         at = put(out, at, &node_bytes(book.node_at(i)));
     }
     for j in 0..counts.entries {
-        at = put(out, at, &line_bytes(book.entry_at(j)));
+        at = put(out, at, &entry_bytes(book.entry_at(j)));
     }
     Ok(put(out, at, &trailer_bytes(counts)))
 }

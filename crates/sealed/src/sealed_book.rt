@@ -3,7 +3,7 @@ ghost use Rattle.std.specs.Prelude.{◌≡◌, Err, IfOk, IfErr};
 ghost use Rattle.sealed.specs.Frames.{book_in};
 ghost use Rattle.sealed.specs.Writing.{SealedAs};
 ghost use Rattle.sealed.specs.Checks.{CheckAnswer, Opened};
-ghost use Rattle.sealed.specs.Steps.{Stands};
+ghost use Rattle.sealed.specs.Steps.{PassesOrEmpty};
 ghost use Rattle.logic.specs.Lawful.{Lawful};
 ghost use Rattle.logic.proofs.Deciding.{lawful_known};
 
@@ -11,13 +11,13 @@ use crate::check::checked;
 use crate::faults::CheckFault;
 use crate::frame::Frame;
 use books::book::ReadableBook;
-use logic::records::{Line, Node};
+use logic::records::{Node, StoredEntry};
 
 // The sealed bytes and their two counts: check passes, or both counts are 0. So the book is lawful.
 #[derive(Clone, Copy)]
 pub struct SealedBook<'a> {
     frame: Frame<'a>,
-    ghost stands: { Stands frame.bytes.now frame.counts.nodes frame.counts.entries },
+    ghost stands: { PassesOrEmpty frame.bytes.now frame.counts.nodes frame.counts.entries },
     ghost lawful: { ∥ Lawful (book_in frame) ∥₁ },
 }
 
@@ -52,7 +52,7 @@ impl<'a> ReadableBook for SealedBook<'a> {
         self.frame.counts.nodes
     }
 
-    #[tactic(auto, using(crate::proofs::Framing::frame_lines))]
+    #[tactic(auto, using(crate::proofs::Framing::frame_entries))]
     fn entry_count(&self) -> u16 {
         self.frame.counts.entries
     }
@@ -61,7 +61,7 @@ impl<'a> ReadableBook for SealedBook<'a> {
         self.frame.node_at(i)
     }
 
-    fn entry_at(&self, i: u16) -> Line {
-        self.frame.line_at(i)
+    fn entry_at(&self, i: u16) -> StoredEntry {
+        self.frame.stored_at(i)
     }
 }

@@ -8,12 +8,12 @@ use Rattle.sealed.specs.declared.faults.CheckFault.{CheckFault}
 use Rattle.sealed.specs.Faults.{check_fault_place}
 use Rattle.sealed.specs.Checks.{Bad, frame, node, entry}
 use Rattle.sealed.proofs.Passing.{frame_parts}
-use Rattle.orders.specs.PairLaws.{paired, PairsLawful}
+use Rattle.orders.specs.PairLaws.{order_of_pairs, PairsLawful}
 use Rattle.orders.specs.declared.faults.PairsFault.{PairsFault}
 use Rattle.orders.specs.declared.faults.PairsFault.TheVariants as pairs
 use Rattle.orders.specs.Faults.{pairs_fault_place}
 use Rattle.orders.specs.Answers.{PairsRefused}
-use Rattle.models.specs.Interpretations.{said}
+use Rattle.models.specs.Interpretations.{interpretation_of}
 use Rattle.models.specs.Fields.{Field, size, name, role, individual, first_byte, Good, LowestBad}
 use Rattle.models.specs.declared.faults.ViewFault.TheVariants as view
 use Rattle.models.proofs.BadFields.{empty_within}
@@ -24,8 +24,8 @@ use Rattle.judge.specs.declared.show_faults.ShowFault.TheVariants.{View, OrderSi
 use Rattle.judge.specs.Faults.{refute_fault_place}
 use Rattle.judge.specs.ShowFaults.{show_fault_place}
 use Rattle.judge.specs.Steps.{decoded}
-use Rattle.judge.specs.Reasons.{Reason, by_length, by_steps, Halted}
-use Rattle.judge.specs.Shows.{ShowRefused}
+use Rattle.judge.specs.Reasons.{RefuteReason, by_length, by_steps, StepsReason}
+use Rattle.judge.specs.ShowAnswers.{ShowRefused}
 use Rattle.judge.proofs.Decoding.{steps_length}
 use Rattle.judge.proofs.Agreeing.{live_within}
 
@@ -33,14 +33,14 @@ pub check_place : (bs : List ℕ) (f : CheckFault) → Bad bs f → check_fault_
 check_place bs f (frame fits number place) = omega (arith, place)
 check_place bs f (node {n = n} {m = m} fits n-is m-is first) =
     let p = frame_parts bs n m fits n-is m-is in
-    omega (arith, first.place, first.there, p.within, p.long)
+    omega (arith, first.place, first.within, p.within, p.long)
 check_place bs f (entry {n = n} {m = m} fits n-is m-is nodes first) =
     let p = frame_parts bs n m fits n-is m-is in
-    omega (arith, first.place, first.there, p.within, p.long)
+    omega (arith, first.place, first.within, p.within, p.long)
 
 pub pairs_place : (ps : List ℕ) (f : PairsFault) → PairsRefused ps f → pairs_fault_place f ≤ length ps
 pairs_place ps (pairs.BadLength n) r = omega (arith, r.2)
-pairs_place ps (pairs.Unlawful x) r = omega (arith, r.2.there)
+pairs_place ps (pairs.Unlawful x) r = omega (arith, r.2.within)
 
 -- pairs are not refused where they are a strict order
 pub pairs_unlawful : (ps : List ℕ) (f : PairsFault) → PairsRefused ps f → PairsLawful ps → ⊥
@@ -48,20 +48,20 @@ pairs_unlawful ps (pairs.BadLength n) r lawful = r.0 lawful.0
 pairs_unlawful ps (pairs.Unlawful x) r (whole, strict) =
     r.2.unlawful (record { within = strict.within x; other = strict.irreflexive x; closed = λ y h z t. strict.transitive x y z h t })
 
-halted_place : (bk : Book) (ls : Lengths) (ss : List ℕ) (f : RefuteFault) → Halted bk ls (decoded ss) f → refute_fault_place f ≤ length (decoded ss)
+halted_place : (bk : Book) (ls : Lengths) (ss : List ℕ) (f : RefuteFault) → StepsReason bk ls (decoded ss) f → refute_fault_place f ≤ length (decoded ss)
 halted_place bk ls ss (BadLength n) h = absurd h
 halted_place bk ls ss (AtStep i f) h = omega (arith, h.here.within)
 halted_place bk ls ss (AfterClosing i) h = omega (arith, h.0)
 halted_place bk ls ss (NotClosed n) h = omega (arith, h.0)
 
-pub refute_place : (bk : Book) (ls : Lengths) (ss : List ℕ) (f : RefuteFault) → Reason bk ls ss f → refute_fault_place f ≤ length ss
+pub refute_place : (bk : Book) (ls : Lengths) (ss : List ℕ) (f : RefuteFault) → RefuteReason bk ls ss f → refute_fault_place f ≤ length ss
 refute_place bk ls ss f (by_length bad) = omega arith
 refute_place bk ls ss f (by_steps whole h) = omega (arith, halted_place bk ls ss f h, steps_length ss (length ss / 5))
 
 -- a bad field is one of those that are there: past them nothing is said
-bad_field : (bs : List ℕ) (k : ℕ) → LowestBad (said bs) k → k < 2337
+bad_field : (bs : List ℕ) (k : ℕ) → LowestBad (interpretation_of bs) k → k < 2337
 bad_field bs k b = of b.field b.stands b.bad where
-  of : (f : Field) → first_byte f ≡ k → (Good (said bs) f → ⊥) → k < 2337
+  of : (f : Field) → first_byte f ≡ k → (Good (interpretation_of bs) f → ⊥) → k < 2337
   of size at bad = omega (arith, at)
   of (name a) at bad = elim (cases_lt a 64) [
     | inl l ↦ omega (arith, at, l)
@@ -73,16 +73,16 @@ bad_field bs k b = of b.field b.stands b.bad where
   ]
   of (individual a) at bad = elim (cases_lt a 32) [
     | inl l ↦ omega (arith, at, l)
-    | inr l ↦ (let none : (said bs).individual a ≡ 0 = cond-false _ _ _ (le-ltb a 32 l) in
+    | inr l ↦ (let none : (interpretation_of bs).individual a ≡ 0 = cond-false _ _ _ (le-ltb a 32 l) in
         let some = (b.lowest size (omega (arith, at))).0 in
         absurd (bad (omega (arith, none, some))))
   ]
 
-pub show_place : (bk : Book) (ms ps list : List ℕ) (f : ShowFault) → Lawful bk → ShowRefused bk ms (paired ps) list f → show_fault_place f ≤ length ms + length ps + 2337
+pub show_place : (bk : Book) (ms ps list : List ℕ) (f : ShowFault) → Lawful bk → ShowRefused bk ms (order_of_pairs ps) list f → show_fault_place f ≤ length ms + length ps + 2337
 show_place bk ms ps list (View (view.BadLength n)) lawful r = omega (arith, r.0.2)
 show_place bk ms ps list (View (view.BadField k)) lawful r = omega (arith, bad_field ms k r.0.2)
 show_place bk ms ps list (OrderSize n) lawful r = omega (arith, r.4)
 show_place bk ms ps list (Fill f) lawful r = omega (arith, r.3, r.1, lawful.well_formed.few_nodes)
 show_place bk ms ps list (EntryFails i) lawful r =
     let l = (r.3 r.0.1).0 in
-    omega (arith, live_within bk i l.entry l.live, lawful.well_formed.few_lines)
+    omega (arith, live_within bk i l.entry l.live, lawful.well_formed.few_entries)

@@ -6,16 +6,16 @@ use Rattle.std.proofs.lemmas.Fmt.{decimal-digits_value}
 use Rattle.std.proofs.lemmas.Int.Digits.{all_below_base_digits_of, first_digits_of, number_digits_of}
 use Rattle.std.proofs.ByRecursion.{All-map, All-weaker}
 use Rattle.std.proofs.lemmas.Str.Parse.{IsNumeralModel, numerals_by_fold}
-use Rattle.verdict.specs.Laws.{Digit, read_on, ReadsAs, DecimalsRead}
+use Rattle.verdict.specs.Laws.{Digit, value_of_digits, ReadsAs, DecimalsRead}
 use Rattle.verdict.specs.Lines.{decimal}
 use Rattle.verdict.proofs.Decimals.{code, same}
 
 -- the codes of digits read as the number that the digits write
-read_codes : (n : ℕ) (ds : List ℕ) → read_on n (map code ds) ≡ number_from_digits_after 10 n ds
+read_codes : (n : ℕ) (ds : List ℕ) → value_of_digits n (map code ds) ≡ number_from_digits_after 10 n ds
 read_codes n [] = refl
 read_codes n (d ∷ ds) =
     let same : n * 10 + (48 + d - 48) ≡ n * 10 + d = omega arith in
-    ap (λ m. read_on m (map code ds)) same ∙ read_codes (n * 10 + d) ds
+    ap (λ m. value_of_digits m (map code ds)) same ∙ read_codes (n * 10 + d) ds
 
 -- codes begin with that of the first digit
 first_code : (ds : List ℕ) → 0 < get_or ds 0 0 → 48 < get_or (map code ds) 0 0
@@ -35,8 +35,8 @@ reads (suc n) =
     }
 
 -- these are words for digits and for what they write
-own : IsNumeralModel (AllByRecursion Digit) (read_on 0)
-own = numerals_by_fold _ (search rules) read_on (search rules)
+own : IsNumeralModel (AllByRecursion Digit) (value_of_digits 0)
+own = numerals_by_fold _ (search rules) value_of_digits (search rules)
 
 -- there is a first byte, and it is a zero only in `0`
 leads : (bs : List ℕ) → (bs ≡ codes "0") ⊎ (48 < get_or bs 0 0) → (0 < length bs) × (get_or bs 0 0 ≡ 48 → length bs ≡ 1)
@@ -49,8 +49,8 @@ leads (b ∷ bs) (inr h) = (omega arith, λ e. absurd (omega arith))
 only : (n : ℕ) (bs : List ℕ) → n < 2 ^ 32 → ReadsAs n bs → bs ≡ decimal n
 only n bs h r =
     let l = leads bs r.leading in
-    let small : read_on 0 bs < 2 ^ 64 = omega (arith, r.value) in
-    sym (decimal-digits_value own bs r.digits l.0 l.1 small) ∙ (same (read_on 0 bs) small ∙ ap decimal r.value)
+    let small : value_of_digits 0 bs < 2 ^ 64 = omega (arith, r.value) in
+    sym (decimal-digits_value own bs r.digits l.0 l.1 small) ∙ (same (value_of_digits 0 bs) small ∙ ap decimal r.value)
 
 pub decimals_read : DecimalsRead
 decimals_read = record { reads = reads; only = only }

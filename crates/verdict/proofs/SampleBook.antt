@@ -9,28 +9,28 @@ use Rattle.books.specs.declared.faults.OfferFault.{OfferFault}
 use Rattle.books.specs.declared.faults.Reason.TheVariants as reasons
 use Rattle.books.specs.declared.faults.Unfit.TheVariants.{TypicalMisplaced}
 use Rattle.books.specs.Faults.{offer_fault_number, offer_fault_place}
-use Rattle.sealed.specs.Writing.{written, SealedAs}
-use Rattle.verdict.specs.Rows.{Outcome, Gives, RefusedAt, SealSample, OfferNode, Ends, Samples}
+use Rattle.sealed.specs.Writing.{book_bytes, SealedAs}
+use Rattle.verdict.specs.Rows.{CallOutcome, Gives, RefusedAt, SealSample, OfferNode, Ends, Samples}
 use Rattle.verdict.proofs.SampleBytes.{sample_whole, sample_said}
 use Rattle.verdict.proofs.SampleShown.{sample_model}
 
-long : length (written sample) ≡ 64
-unfolding written
+long : length (book_bytes sample) ≡ 64
+unfolding book_bytes
 long = refl
 
 -- the trailer: 7 nodes, 3 entries, and 56 bytes back to the first node
 abbrev ending : List ℕ
 ending = 0x07 ∷ 0x00 ∷ 0x03 ∷ 0x00 ∷ 0x38 ∷ 0x00 ∷ 0x00 ∷ 0x00 ∷ []
 
-ends : (rest : List ℕ) → Ends ending 64 (written sample ++ rest)
-unfolding written
+ends : (rest : List ℕ) → Ends ending 64 (book_bytes sample ++ rest)
+unfolding book_bytes
 ends rest = refl
 
-sealed_as : (rest : List ℕ) → SealedAs (take 64 (written sample ++ rest)) sample
-unfolding written
+sealed_as : (rest : List ℕ) → SealedAs (take 64 (book_bytes sample ++ rest)) sample
+unfolding book_bytes
 sealed_as rest = record { lawful = examples.sample_lawful; note = []; is = refl }
 
-abbrev Sealing : Outcome (Result ℕ (BadLength 20)) (List ℕ) → Type 0
+abbrev Sealing : CallOutcome (Result ℕ (BadLength 20)) (List ℕ) → Type 0
 Sealing seal = (seal.answer ≡ Ok 64) × SealedAs (take 64 seal.left) sample × Ends ending 64 seal.left
 
 module _ (out : List ℕ) (room : 64 ≤ length out) where
@@ -42,7 +42,7 @@ module _ (out : List ℕ) (room : 64 ≤ length out) where
 
   pub sealed : Gives (SealSample out) Sealing
   sealed = record {
-    some = (record { answer = Ok 64; left = written sample ++ drop 64 out }, (sym long, refl));
+    some = (record { answer = Ok 64; left = book_bytes sample ++ drop 64 out }, (sym long, refl));
     every = λ seal h. seals seal.answer seal.left h;
   }
 
@@ -62,7 +62,7 @@ misplaced = record {
 
 pub samples : Samples
 samples = record {
-  book = (record { nodes = sample.nodes; lines = [] }, (refl, (refl, (refl, (refl, (refl, (refl, (refl, refl))))))), (refl, (refl, (refl, refl))));
+  book = (record { nodes = sample.nodes; entries = [] }, (refl, (refl, (refl, (refl, (refl, (refl, (refl, refl))))))), (refl, (refl, (refl, refl))));
   question = (refl, refl);
   closed = refl;
   wrong = refl;

@@ -4,8 +4,8 @@ use Rattle.std.proofs.Math.Path.{fun_ext}
 use Rattle.std.proofs.lemmas.List.{get_or-set_same, get_or-set_other, length-set, length-replicate}
 use Rattle.orders.specs.Bytes.{word}
 use Rattle.orders.proofs.Tables.{no_rows}
-use Rattle.models.specs.Interpretations.{Interpretation, said}
-use Rattle.models.specs.Answers.{Whole}
+use Rattle.models.specs.Interpretations.{Interpretation, interpretation_of}
+use Rattle.models.specs.Answers.{HasModelLength}
 use Rattle.models.specs.Samples.{sample_bytes}
 
 -- names 0, 1 and 2 have the sets 3, 1 and 2
@@ -13,7 +13,7 @@ abbrev pub sample_names : ℕ → ℕ
 sample_names a = get_or (3 ∷ 1 ∷ 2 ∷ []) a 0
 
 abbrev pub sample_interpretation : Interpretation
-sample_interpretation = record { size = 2; names = sample_names; led = λ r x. 0; individual = λ a. 0 }
+sample_interpretation = record { size = 2; names = sample_names; successors = λ r x. 0; individual = λ a. 0 }
 
 -- zeros, in which four bytes are set
 module _ (xs : List ℕ) (zeros : (k : ℕ) → get_or xs k 0 ≡ 0) (long : length xs ≡ 2337) where
@@ -72,25 +72,25 @@ module _ (xs : List ℕ) (zeros : (k : ℕ) → get_or xs k 0 ≡ 0) (long : len
   none true n e = e
   none false n e = refl
 
-  name_at : (a : ℕ) → (said bytes).names a ≡ sample_names a
+  name_at : (a : ℕ) → (interpretation_of bytes).names a ≡ sample_names a
   name_at zero = word_of 1 (λ j l m. other j (λ e. omega arith) (λ e. omega arith) (λ e. omega arith) (λ e. omega arith)) ∙ byte_1
   name_at (suc zero) = word_of 5 (λ j l m. other j (λ e. omega arith) (λ e. omega arith) (λ e. omega arith) (λ e. omega arith)) ∙ byte_5
   name_at (suc (suc zero)) = word_of 9 (λ j l m. other j (λ e. omega arith) (λ e. omega arith) (λ e. omega arith) (λ e. omega arith)) ∙ byte_9
   name_at (suc (suc (suc a))) = none _ _ (far_word (1 + 4 * suc (suc (suc a))) (omega arith))
 
-  led_at : (r x : ℕ) → (said bytes).led r x ≡ 0
+  led_at : (r x : ℕ) → (interpretation_of bytes).successors r x ≡ 0
   led_at r x = none _ _ (far_word (257 + 4 * (32 * r + x)) (omega arith))
 
-  individual_at : (a : ℕ) → (said bytes).individual a ≡ 0
+  individual_at : (a : ℕ) → (interpretation_of bytes).individual a ≡ 0
   individual_at a = none _ _ (far_byte (2305 + a) (omega arith))
 
-  bytes_said : said bytes ≡ sample_interpretation
-  bytes_said = λ i. record { size = byte_0 i; names = fun_ext name_at i; led = fun_ext (λ r. fun_ext (led_at r)) i; individual = fun_ext individual_at i }
+  bytes_said : interpretation_of bytes ≡ sample_interpretation
+  bytes_said = λ i. record { size = byte_0 i; names = fun_ext name_at i; successors = fun_ext (λ r. fun_ext (led_at r)) i; individual = fun_ext individual_at i }
 
-pub sample_whole : Whole sample_bytes
+pub sample_whole : HasModelLength sample_bytes
 unfolding sample_bytes
 sample_whole = bytes_long (replicate 2337 0) (no_rows 2337) (length-replicate {A = ℕ} 2337 0)
 
-pub sample_said : said sample_bytes ≡ sample_interpretation
+pub sample_said : interpretation_of sample_bytes ≡ sample_interpretation
 unfolding sample_bytes
 sample_said = bytes_said (replicate 2337 0) (no_rows 2337) (length-replicate {A = ℕ} 2337 0)

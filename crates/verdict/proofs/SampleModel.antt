@@ -13,10 +13,10 @@ use Rattle.logic.specs.Samples.{sample, SampleModel}
 use Rattle.orders.specs.Masks.{has, Within, Preference}
 use Rattle.orders.proofs.MaskBits.{has-zero, below_within}
 use Rattle.models.specs.Fields.{size, name, role, individual, Valid}
-use Rattle.models.specs.Meanings.{Fits, meant}
+use Rattle.models.specs.Meanings.{Compatible, model_of}
 use Rattle.models.specs.Extensions.{Extension}
-use Rattle.judge.specs.NodeSets.{Sets}
-use Rattle.judge.specs.Shows.{LowestFalse}
+use Rattle.judge.specs.NodeSets.{HasNodeSets}
+use Rattle.judge.specs.ShowAnswers.{LowestFalse}
 use Rattle.verdict.proofs.SampleBytes.{sample_names, sample_interpretation}
 
 name_within : (a : ℕ) → Within 2 (sample_names a)
@@ -31,9 +31,9 @@ sample_valid (name a) = name_within a
 sample_valid (role r x) = (below_within 2 0 (lit< tt), λ h. refl)
 sample_valid (individual a) = lit< tt
 
-module _ (o : Preference) (f : Fits sample_interpretation o) where
+module _ (o : Preference) (f : Compatible sample_interpretation o) where
   abbrev M : Model
-  M = meant sample_interpretation o f
+  M = model_of sample_interpretation o f
 
   -- the set of a concept, by each of the two elements
   two : (c : Concept) (mask : ℕ) → mask < 4 → Decides (has mask 0) (Sat M c 0) → Decides (has mask 1) (Sat M c 1) → Extension M c mask
@@ -83,7 +83,7 @@ module _ (o : Preference) (f : Fits sample_interpretation o) where
     past : (i : ℕ) → 7 ≤ i → get_or (3 ∷ 1 ∷ 2 ∷ mask ∷ 1 ∷ 1 ∷ 1 ∷ []) i 0 ≡ 0
     past i h = get_or_past (3 ∷ 1 ∷ 2 ∷ mask ∷ 1 ∷ 1 ∷ 1 ∷ []) i 0 h
 
-    pub sample_sets : Sets M sample (3 ∷ 1 ∷ 2 ∷ mask ∷ 1 ∷ 1 ∷ 1 ∷ [])
+    pub sample_sets : HasNodeSets M sample (3 ∷ 1 ∷ 2 ∷ mask ∷ 1 ∷ 1 ∷ 1 ∷ [])
     sample_sets = record { sets = sets_at; rest = past }
 
   -- where 1 is better than 0

@@ -7,8 +7,8 @@ use Rattle.orders.specs.declared.faults.PairsFault.{PairsFault}
 use Rattle.orders.specs.declared.faults.PairsFault.TheVariants as pair
 use Rattle.orders.specs.Bytes.{byte}
 use Rattle.orders.specs.Masks.{has, Preference, Strict}
-use Rattle.orders.specs.PairLaws.{paired, WholeRows, LawfulRow, LowestUnlawful}
-use Rattle.orders.specs.RankLaws.{ranked}
+use Rattle.orders.specs.PairLaws.{order_of_pairs, WholeRows, LawfulRow, LowestUnlawful}
+use Rattle.orders.specs.RankLaws.{order_of_ranks}
 use Rattle.orders.specs.Faults.{pairs_fault_number, pairs_fault_place}
 use Rattle.orders.proofs.MaskBits.{has-zero, mask_has, below_within}
 use Rattle.orders.proofs.Strictness.{rows_strict, word_past, ranked_strict}
@@ -16,7 +16,7 @@ use Rattle.verdict.specs.Rows.{Gives, pairs, FillPairs, FillRanks, RefusedAt}
 
 -- element 1 is better than element 0
 abbrev pub one_better : Preference
-one_better = paired (pairs 2 0)
+one_better = order_of_pairs (pairs 2 0)
 
 pub whole : (first second : ℕ) → WholeRows (pairs first second)
 whole first second = record { fours = refl; some = lit≤ tt; few = lit≤ tt }
@@ -59,11 +59,11 @@ one_strict = rows_strict one_better (lit≤ tt) (lit≤ tt) (λ x h. word_past (
 pub one_filled : (before after : Preference) (r : Result (Unit {0}) PairsFault) → FillPairs (pairs 2 0) before (record { answer = r; left = after }) → after ≡ one_better
 one_filled before after (Ok u) h = h.1
 one_filled before after (Err (pair.BadLength n)) h = absurd (h.0.0 (whole 2 0))
-one_filled before after (Err (pair.Unlawful x)) h = absurd (h.0.2.unlawful (one_lawful x h.0.2.there))
+one_filled before after (Err (pair.Unlawful x)) h = absurd (h.0.2.unlawful (one_lawful x h.0.2.within))
 
 -- neither of two elements is better
 abbrev pub neither : Preference
-neither = ranked (0 ∷ 0 ∷ [])
+neither = order_of_ranks (0 ∷ 0 ∷ [])
 
 rank : (k : ℕ) → byte (0 ∷ 0 ∷ []) k ≡ 0
 rank zero = refl
@@ -84,14 +84,14 @@ neither_filled before after (Err f) h = absurd (h.0.0 (lit≤ tt, lit≤ tt))
 
 -- each of two elements is better than the other
 abbrev both : Preference
-both = paired (pairs 2 1)
+both = order_of_pairs (pairs 2 1)
 
 -- element 1 is better than 0, and what is better than 1 is not better than 0
 both_unlawful : LawfulRow both 0 → ⊥
 both_unlawful r = false≢true (r.closed 1 refl 0 refl)
 
 lowest_unlawful : LowestUnlawful both 0
-lowest_unlawful = record { there = lit< tt; unlawful = both_unlawful; lowest = λ w h. absurd (omega arith) }
+lowest_unlawful = record { within = lit< tt; unlawful = both_unlawful; lowest = λ w h. absurd (omega arith) }
 
 strict_unlawful : Strict both → ⊥
 strict_unlawful s = false≢true (s.transitive 0 1 0 refl refl)

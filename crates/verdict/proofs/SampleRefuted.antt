@@ -7,9 +7,9 @@ use Rattle.logic.specs.Books.{Book}
 use Rattle.logic.specs.Lawful.{WellFormed}
 use Rattle.logic.specs.Branches.{Branch, start, constraint, with}
 use Rattle.logic.specs.Rules.{step, fact, not_holds, inclusion, holds_and_fails}
-use Rattle.logic.specs.Tableaux.{writing, used}
-use Rattle.logic.specs.Limits.{Lengths, Fits}
-use Rattle.logic.specs.Samples.{sample, refuted, refutation, wrong_steps}
+use Rattle.logic.specs.Tableaux.{writing, named_count}
+use Rattle.logic.specs.Limits.{Lengths, FitsLists}
+use Rattle.logic.specs.Samples.{sample, unsatisfiable_sample, refutation, wrong_steps}
 use Rattle.logic.specs.Examples.{after_and, second_side}
 use Rattle.logic.proofs.Examples.{examples, there}
 use Rattle.logic.proofs.Fitting.{longer_lists_fit}
@@ -18,16 +18,16 @@ use Rattle.judge.specs.declared.faults.RefuteFault.TheVariants.{AtStep}
 use Rattle.judge.specs.declared.step_fault.StepFault.TheVariants.{Misfit, Full}
 use Rattle.judge.specs.declared.used.Used.{Used}
 use Rattle.judge.specs.Faults.{refute_fault_number, refute_fault_place}
-use Rattle.judge.specs.Steps.{decoded, encoded, Whole}
-use Rattle.judge.specs.Members.{members, marks_of}
-use Rattle.judge.specs.Progress.{Room, Underway, begun, extended, divided, turned, Finished}
-use Rattle.judge.specs.Reasons.{branch_full, Halted, by_steps}
+use Rattle.judge.specs.Steps.{decoded, encoded, WholeSteps}
+use Rattle.judge.specs.Members.{member_count, marks_of}
+use Rattle.judge.specs.Progress.{Room, Underway, begun, extended, divided, resumed, Finished}
+use Rattle.judge.specs.Reasons.{branch_full, StepsReason, by_steps}
 use Rattle.judge.specs.Refutations.{Refutation}
 use Rattle.judge.proofs.Answering.{answer_steps}
 use Rattle.judge.proofs.Trees.{closed_finished}
 use Rattle.verdict.specs.Rows.{Gives, RefusedAt, Refute, lists}
 
-formed : WellFormed refuted
+formed : WellFormed unsatisfiable_sample
 formed = examples.refuted_lawful.well_formed
 
 -- the bytes are read back
@@ -37,14 +37,14 @@ refutation_read = refl
 wrong_read : decoded (encoded wrong_steps) ≡ wrong_steps
 wrong_read = refl
 
-refutation_whole : Whole (encoded refutation)
+refutation_whole : WholeSteps (encoded refutation)
 refutation_whole = record { whole = refl; few = lit≤ tt }
 
-wrong_whole : Whole (encoded wrong_steps)
+wrong_whole : WholeSteps (encoded wrong_steps)
 wrong_whole = record { whole = refl; few = lit≤ tt }
 
 -- steps that are halted, and the refusal
-module _ (bk : Book) (formed : WellFormed bk) (ls : Lengths) (ss : List Step) (whole : Whole (encoded ss)) (f : RefuteFault) (halted : Halted bk ls (decoded (encoded ss)) f) where
+module _ (bk : Book) (formed : WellFormed bk) (ls : Lengths) (ss : List Step) (whole : WholeSteps (encoded ss)) (f : RefuteFault) (halted : StepsReason bk ls (decoded (encoded ss)) f) where
   refused_every : (r : Result Used RefuteFault) → Refute bk ls ss r → RefusedAt refute_fault_number refute_fault_place (refute_fault_number f) (refute_fault_place f) r
   refused_every r h =
       subst (RefusedAt refute_fault_number refute_fault_place (refute_fault_number f) (refute_fault_place f)) (sym (h.refuses f (by_steps whole halted))) (refl, refl)
@@ -55,19 +55,19 @@ module _ (bk : Book) (formed : WellFormed bk) (ls : Lengths) (ss : List Step) (w
 written : writing examples.refutation.tableau ≡ decoded (encoded refutation)
 written = examples.refutation.written ∙ sym refutation_read
 
-four : used (decoded (encoded refutation)) ≡ 4
-four = ap used (sym written) ∙ examples.refutation.four
+four : named_count (decoded (encoded refutation)) ≡ 4
+four = ap named_count (sym written) ∙ examples.refutation.four
 
 -- the set of the entries that it names
 abbrev marked : Used
 marked = record { marks = marks_of (decoded (encoded refutation)) }
 
 module _ (edges : ℕ) where
-  fits : Fits (lists 5 edges 1) examples.refutation.tableau
+  fits : FitsLists (lists 5 edges 1) examples.refutation.tableau
   fits =
-      longer_lists_fit refuted start examples.refutation.tableau (lists 5 0 1) (lists 5 edges 1) (record { constraints = lit≤ tt; edges = omega arith; splits = lit≤ tt }) examples.refutation.fits
+      longer_lists_fit unsatisfiable_sample start examples.refutation.tableau (lists 5 0 1) (lists 5 edges 1) (record { constraints = lit≤ tt; edges = omega arith; splits = lit≤ tt }) examples.refutation.fits
 
-  refutes : Refutation refuted (lists 5 edges 1) (encoded refutation)
+  refutes : Refutation unsatisfiable_sample (lists 5 edges 1) (encoded refutation)
   refutes = record {
     tableau = examples.refutation.tableau;
     whole = refutation_whole;
@@ -76,17 +76,17 @@ module _ (edges : ℕ) where
     fits = fits;
   }
 
-  answer : Refute refuted (lists 5 edges 1) refutation (Ok marked)
+  answer : Refute unsatisfiable_sample (lists 5 edges 1) refutation (Ok marked)
   answer =
-      answer_steps refuted (lists 5 edges 1) (encoded refutation) formed refutation_whole (Ok marked)
-      (subst (Finished refuted (lists 5 edges 1)) written (closed_finished refuted (lists 5 edges 1) examples.refutation.tableau fits examples.refutation.limits.labels), refl)
+      answer_steps unsatisfiable_sample (lists 5 edges 1) (encoded refutation) formed refutation_whole (Ok marked)
+      (subst (Finished unsatisfiable_sample (lists 5 edges 1)) written (closed_finished unsatisfiable_sample (lists 5 edges 1) examples.refutation.tableau fits examples.refutation.limits.labels), refl)
 
-  closed_every : (r : Result Used RefuteFault) → Refute refuted (lists 5 edges 1) refutation r → IsOkAnd r (λ u. members u ≡ 4)
+  closed_every : (r : Result Used RefuteFault) → Refute unsatisfiable_sample (lists 5 edges 1) refutation r → IsOkAnd r (λ u. member_count u ≡ 4)
   closed_every r h =
       let a = h.accepts refutes in
-      subst (λ r. IsOkAnd r (λ u. members u ≡ 4)) (sym a.1) ((h.accepted a.0 a.1).count ∙ four)
+      subst (λ r. IsOkAnd r (λ u. member_count u ≡ 4)) (sym a.1) ((h.accepted a.0 a.1).count ∙ four)
 
-  pub closed : Gives (Refute refuted (lists 5 edges 1) refutation) (λ r. IsOkAnd r (λ u. members u ≡ 4))
+  pub closed : Gives (Refute unsatisfiable_sample (lists 5 edges 1) refutation) (λ r. IsOkAnd r (λ u. member_count u ≡ 4))
   closed = record { some = (Ok marked, answer); every = closed_every }
 
 -- the branches of the refutation: each after a step, or next after a closing one
@@ -104,11 +104,11 @@ enough : {ls : Lengths} {k : ℕ} {br : Branch} → T (leb (length br.constraint
 enough c e s l = record { lists = record { constraints = lit≤ c; edges = omega (arith, lit≤ e); splits = lit≤ s }; labels = lit≤ l }
 
 module _ (edges : ℕ) where
-  four_under : Underway refuted (lists 4 edges 1) (take 6 refutation) after_5 []
+  four_under : Underway unsatisfiable_sample (lists 4 edges 1) (take 6 refutation) after_5 []
   four_under =
-      turned
+      resumed
       (divided
-      (turned
+      (resumed
       (divided
       (extended
       (extended begun (fact {a = 2} {x = 0} {c = 5} refl) (enough tt tt tt tt))
@@ -118,8 +118,8 @@ module _ (edges : ℕ) where
       (inclusion {a = 1} {x = 0} {c = 5} {d = 6} refl (lit< tt)) (enough tt tt tt tt))
       (holds_and_fails {a = 0} {b = 3} {x = 0} {n = 5} (there tt refl) (there tt refl))
 
-  full : Halted refuted (lists 4 edges 1) (decoded (encoded refutation)) (AtStep 6 Full)
-  full = subst (λ ss. Halted refuted (lists 4 edges 1) ss (AtStep 6 Full)) (sym refutation_read) (record {
+  full : StepsReason unsatisfiable_sample (lists 4 edges 1) (decoded (encoded refutation)) (AtStep 6 Full)
+  full = subst (λ ss. StepsReason unsatisfiable_sample (lists 4 edges 1) ss (AtStep 6 Full)) (sym refutation_read) (record {
     current = step 3 3 0;
     here = there tt refl;
     branch = after_5;
@@ -128,8 +128,8 @@ module _ (edges : ℕ) where
     because = branch_full (not_holds {a = 3} {x = 0} {n = 6} {c = 2} (there tt refl) refl) (λ r. let l : 5 ≤ 4 = r.lists.constraints in omega arith);
   })
 
-  pub list_full : Gives (Refute refuted (lists 4 edges 1) refutation) (RefusedAt refute_fault_number refute_fault_place 11 6)
-  list_full = refused refuted formed (lists 4 edges 1) refutation refutation_whole (AtStep 6 Full) full
+  pub list_full : Gives (Refute unsatisfiable_sample (lists 4 edges 1) refutation) (RefusedAt refute_fault_number refute_fault_place 11 6)
+  list_full = refused unsatisfiable_sample formed (lists 4 edges 1) refutation refutation_whole (AtStep 6 Full) full
 
 module _ (ls : Lengths) (seven : 7 ≤ ls.constraints) (two : 2 ≤ ls.splits) where
   room : {k : ℕ} {br : Branch} → T (leb (length br.constraints) 7) → T (leb (length br.edges) 0) → T (leb k 2) → T (leb br.next 256) → Room ls k br
@@ -137,7 +137,7 @@ module _ (ls : Lengths) (seven : 7 ≤ ls.constraints) (two : 2 ≤ ls.splits) w
 
   six_under : Underway sample ls (take 6 wrong_steps) second_side (with after_and (constraint 0 Holds 2 ∷ []) [] ∷ [])
   six_under =
-      turned
+      resumed
       (divided
       (divided
       (extended
@@ -149,8 +149,8 @@ module _ (ls : Lengths) (seven : 7 ≤ ls.constraints) (two : 2 ≤ ls.splits) w
       examples.wrong.step_4 (room tt tt tt tt))
       examples.wrong.step_5
 
-  misfit : Halted sample ls (decoded (encoded wrong_steps)) (AtStep 6 Misfit)
-  misfit = subst (λ ss. Halted sample ls ss (AtStep 6 Misfit)) (sym wrong_read) (record {
+  misfit : StepsReason sample ls (decoded (encoded wrong_steps)) (AtStep 6 Misfit)
+  misfit = subst (λ ss. StepsReason sample ls ss (AtStep 6 Misfit)) (sym wrong_read) (record {
     current = step 12 2 6;
     here = there tt refl;
     branch = second_side;

@@ -1,6 +1,6 @@
 -- Theorems about the lines.
--- Digit: the code of a digit. read_on: the number that digits write. ReadsAs: bytes are the decimal of a number,
--- said by how they are read. Of32Bits: the numbers of a verdict fit. DecimalsRead, LinesFit: the theorems.
+-- Digit: the code of a digit. value_of_digits: the number that digits write. ReadsAs: bytes are the decimal of a
+-- number, said by how they are read. Of32Bits: the numbers of a verdict fit. DecimalsRead, LinesFit: the theorems.
 -- Assumes nothing.
 use Rattle.std.specs.Prelude.{◌≡◌, ℕ, ◌+◌, ◌-◌, ◌*◌, ◌^◌, ◌<◌, ◌≤◌, ◌⊎◌, List, [], ◌∷◌, length, codes, slice_index}
 use Rattle.std.specs.List.{AllByRecursion}
@@ -13,15 +13,15 @@ abbrev pub Digit : ℕ → Type 0
 Digit b = (48 ≤ b) × (b ≤ 57)
 
 -- the number that digits write, read from the left, where n is what was read before them
-abbrev pub read_on : ℕ → List ℕ → ℕ
-read_on n [] = n
-read_on n (b ∷ bs) = read_on (n * 10 + (b - 48)) bs
+abbrev pub value_of_digits : ℕ → List ℕ → ℕ
+value_of_digits n [] = n
+value_of_digits n (b ∷ bs) = value_of_digits (n * 10 + (b - 48)) bs
 
 -- The bytes are digits, they are `0` or do not begin with a zero, and they read as n.
 pub record ReadsAs (n : ℕ) (bs : List ℕ) : Type 0 where
   pub digits : AllByRecursion Digit bs
   pub leading : (bs ≡ codes "0") ⊎ (48 < slice_index bs 0)
-  pub value : read_on 0 bs ≡ n
+  pub value : value_of_digits 0 bs ≡ n
 
 -- The decimal of every number reads as that number, and no other bytes read as a number of 32 bits.
 pub record DecimalsRead : Type 0 where

@@ -1,25 +1,25 @@
 -- The verdict on a hand-in, from its bytes.
--- whole: the bytes of a file that count. room, places: the working lists. TableauAnswer, ModelAnswer: what the
--- parts answer, the first refusal before all. TableauMark, ModelMark: the verdict.
+-- marked_part: the bytes of a file that count. marker_lists, marker_sets: the working lists. TableauAnswer,
+-- ModelAnswer: what the parts answer, the first refusal before all. TableauMark, ModelMark: the verdict.
 -- Assumes nothing.
 use Rattle.std.specs.Prelude.{◌≡◌, ℕ, ◌↔◌, List, take, Ok, Err, Result}
 use Rattle.logic.specs.Books.{Book}
 use Rattle.logic.specs.Models.{Model}
 use Rattle.logic.specs.Satisfaction.{Satisfies}
-use Rattle.logic.specs.Tableaux.{used}
+use Rattle.logic.specs.Tableaux.{named_count}
 use Rattle.logic.specs.Limits.{Lengths}
 use Rattle.sealed.specs.Writing.{Sealed, SealedAs}
 use Rattle.sealed.specs.Checks.{CheckAnswer}
-use Rattle.orders.specs.PairLaws.{paired, PairsLawful}
+use Rattle.orders.specs.PairLaws.{order_of_pairs, PairsLawful}
 use Rattle.orders.specs.Answers.{PairsRefused}
-use Rattle.models.specs.Interpretations.{said}
-use Rattle.models.specs.Meanings.{Fits, meant}
-use Rattle.models.specs.Answers.{Whole}
+use Rattle.models.specs.Interpretations.{interpretation_of}
+use Rattle.models.specs.Meanings.{Compatible, model_of}
+use Rattle.models.specs.Answers.{HasModelLength}
 use Rattle.judge.specs.declared.used.Used.{Used}
-use Rattle.judge.specs.Members.{members}
+use Rattle.judge.specs.Members.{member_count}
 use Rattle.judge.specs.Steps.{decoded}
 use Rattle.judge.specs.Refutations.{Refutation, RefuteAnswer}
-use Rattle.judge.specs.Shows.{ShowPromise}
+use Rattle.judge.specs.ShowAnswers.{ShowPromise}
 use Rattle.verdict.specs.declared.Verdict.{Verdict}
 use Rattle.verdict.specs.declared.Verdict.TheVariants.{Closed, Satisfied, Refused}
 use Rattle.verdict.specs.declared.mark_fault.MarkFault.{MarkFault}
@@ -27,36 +27,36 @@ use Rattle.verdict.specs.declared.mark_fault.MarkFault.TheVariants.{Check, Pairs
 use Rattle.verdict.specs.MarkFaults.{mark_fault_number, mark_fault_place}
 
 -- the first 65,535 bytes of a file are the whole
-abbrev pub whole : List ℕ → List ℕ
-whole bs = take 65535 bs
+abbrev pub marked_part : List ℕ → List ℕ
+marked_part bs = take 65535 bs
 
 -- lists of 4,096 constraints, edges and pending splits
-abbrev pub room : Lengths
-room = record { constraints = 4096; edges = 4096; splits = 4096 }
+abbrev pub marker_lists : Lengths
+marker_lists = record { constraints = 4096; edges = 4096; splits = 4096 }
 
 -- a list of 4,096 sets, one for each node
-abbrev pub places : ℕ
-places = 4096
+abbrev pub marker_sets : ℕ
+marker_sets = 4096
 
 -- How many entries a tableau used, or the first fault: that of check, and over the book that is sealed in the
 -- bytes that of the judge.
 abbrev pub TableauAnswer : List ℕ → List ℕ → Result ℕ MarkFault → Type 0
-TableauAnswer bs ss (Ok n) = (bk : Book) × SealedAs bs bk × ((u : Used) × RefuteAnswer bk room ss (Ok u) × (n ≡ members u))
+TableauAnswer bs ss (Ok n) = (bk : Book) × SealedAs bs bk × ((u : Used) × RefuteAnswer bk marker_lists ss (Ok u) × (n ≡ member_count u))
 TableauAnswer bs ss (Err (Check f)) = CheckAnswer bs (Err f)
 TableauAnswer bs ss (Err (Pairs f)) = ⊥
-TableauAnswer bs ss (Err (Refute f)) = (bk : Book) × SealedAs bs bk × RefuteAnswer bk room ss (Err f)
+TableauAnswer bs ss (Err (Refute f)) = (bk : Book) × SealedAs bs bk × RefuteAnswer bk marker_lists ss (Err f)
 TableauAnswer bs ss (Err (Show f)) = ⊥
 
 -- How many elements a model has, or the first fault: that of check, that of filling the pairs, and over the book
 -- and the order that they are that of the judge.
 abbrev pub ModelAnswer : List ℕ → List ℕ → List ℕ → Result ℕ MarkFault → Type 0
 ModelAnswer bs ms ps (Ok n) =
-    (bk : Book) × SealedAs bs bk × PairsLawful ps × ((list : List ℕ) × ShowPromise bk ms (paired ps) places list (Ok n))
+    (bk : Book) × SealedAs bs bk × PairsLawful ps × ((list : List ℕ) × ShowPromise bk ms (order_of_pairs ps) marker_sets list (Ok n))
 ModelAnswer bs ms ps (Err (Check f)) = CheckAnswer bs (Err f)
 ModelAnswer bs ms ps (Err (Pairs f)) = Sealed bs × PairsRefused ps f
 ModelAnswer bs ms ps (Err (Refute f)) = ⊥
 ModelAnswer bs ms ps (Err (Show f)) =
-    (bk : Book) × SealedAs bs bk × PairsLawful ps × ((list : List ℕ) × ShowPromise bk ms (paired ps) places list (Err f))
+    (bk : Book) × SealedAs bs bk × PairsLawful ps × ((list : List ℕ) × ShowPromise bk ms (order_of_pairs ps) marker_sets list (Err f))
 
 -- an answer as a verdict; a fault by its number and its place
 abbrev pub verdict_of : (ℕ → Verdict) → Result ℕ MarkFault → Verdict
@@ -69,7 +69,7 @@ pub record TableauMark (bs ss : List ℕ) (v : Verdict) : Type 0 where
   pub answer : Result ℕ MarkFault
   pub answered : TableauAnswer bs ss answer
   pub verdict : v ≡ verdict_of Closed answer
-  pub closed : (n : ℕ) → (v ≡ Closed n) ↔ ((bk : Book) × SealedAs bs bk × Refutation bk room ss × (n ≡ used (decoded ss)))
+  pub closed : (n : ℕ) → (v ≡ Closed n) ↔ ((bk : Book) × SealedAs bs bk × Refutation bk marker_lists ss × (n ≡ named_count (decoded ss)))
   pub sound : (n : ℕ) → v ≡ Closed n → (bk : Book) → SealedAs bs bk → (m : Model) → Satisfies m bk → ⊥
 
 -- The verdict on a model, and what it means: satisfied exactly where the bytes and the pairs mean a model that
@@ -78,5 +78,5 @@ pub record ModelMark (bs ms ps : List ℕ) (v : Verdict) : Type 0 where
   pub answer : Result ℕ MarkFault
   pub answered : ModelAnswer bs ms ps answer
   pub verdict : v ≡ verdict_of Satisfied answer
-  pub satisfied : (n : ℕ) → (v ≡ Satisfied n) ↔ ((bk : Book) × SealedAs bs bk × PairsLawful ps × Whole ms
-      × ((f : Fits (said ms) (paired ps)) × Satisfies (meant (said ms) (paired ps) f) bk) × (n ≡ (said ms).size))
+  pub satisfied : (n : ℕ) → (v ≡ Satisfied n) ↔ ((bk : Book) × SealedAs bs bk × PairsLawful ps × HasModelLength ms
+      × ((f : Compatible (interpretation_of ms) (order_of_pairs ps)) × Satisfies (model_of (interpretation_of ms) (order_of_pairs ps) f) bk) × (n ≡ (interpretation_of ms).size))

@@ -8,36 +8,36 @@ use Rattle.logic.specs.declared.refusal.BadLength.{BadLength}
 use Rattle.logic.specs.declared.tableau.Step.{Step}
 use Rattle.logic.specs.Books.{Book, empty}
 use Rattle.logic.specs.Limits.{Lengths}
-use Rattle.logic.specs.Samples.{sample, refuted, refutation, wrong_steps, SampleModel}
+use Rattle.logic.specs.Samples.{sample, unsatisfiable_sample, refutation, wrong_steps, SampleModel}
 use Rattle.books.specs.declared.faults.OfferFault.{OfferFault}
 use Rattle.books.specs.declared.sample.TheConstants.{NODES, ENTRIES, QUESTION, REFUTATION, WRONG_STEPS}
 use Rattle.books.specs.Faults.{offer_fault_number, offer_fault_place}
 use Rattle.books.specs.Answers.{nodes, entries, OfferAnswer}
-use Rattle.books.specs.Writing.{Written}
+use Rattle.books.specs.Writing.{ListGranted}
 use Rattle.sealed.specs.Writing.{u32_bytes, SealedAs}
 use Rattle.sealed.specs.Checks.{SealAnswer}
 use Rattle.orders.specs.declared.faults.PairsFault.{PairsFault}
 use Rattle.orders.specs.Masks.{Preference}
-use Rattle.orders.specs.PairLaws.{paired, PairsLawful}
-use Rattle.orders.specs.RankLaws.{ranked, RanksLawful}
+use Rattle.orders.specs.PairLaws.{order_of_pairs, PairsLawful}
+use Rattle.orders.specs.RankLaws.{order_of_ranks, RanksLawful}
 use Rattle.orders.specs.Faults.{pairs_fault_number, pairs_fault_place}
 use Rattle.orders.specs.Answers.{PairsRefused, RanksRefused, FillAnswer}
-use Rattle.models.specs.Interpretations.{said}
-use Rattle.models.specs.Meanings.{Fits, meant}
-use Rattle.models.specs.Answers.{Whole}
+use Rattle.models.specs.Interpretations.{interpretation_of}
+use Rattle.models.specs.Meanings.{Compatible, model_of}
+use Rattle.models.specs.Answers.{HasModelLength}
 use Rattle.models.specs.Samples.{sample_bytes}
 use Rattle.judge.specs.declared.faults.RefuteFault.{RefuteFault}
 use Rattle.judge.specs.declared.show_faults.ShowFault.{ShowFault}
 use Rattle.judge.specs.declared.used.Used.{Used}
 use Rattle.judge.specs.Faults.{refute_fault_number, refute_fault_place}
 use Rattle.judge.specs.ShowFaults.{show_fault_number, show_fault_place}
-use Rattle.judge.specs.Shows.{ShowPromise}
+use Rattle.judge.specs.ShowAnswers.{ShowPromise}
 use Rattle.judge.specs.Steps.{encoded}
-use Rattle.judge.specs.Members.{members}
+use Rattle.judge.specs.Members.{member_count}
 use Rattle.judge.specs.Refutations.{RefuteAnswer}
 
 -- an answer, and what the call leaves
-pub record Outcome (R S : Type 0) : Type 0 where
+pub record CallOutcome (R S : Type 0) : Type 0 where
   pub answer : R
   pub left : S
 
@@ -56,17 +56,17 @@ pairs first second = u32_bytes first ++ u32_bytes second
 
 -- an order is filled, with this fault if it is refused
 abbrev pub Filling : Type 0 → Type 0
-Filling Fault = Outcome (Result (Unit {0}) Fault) Preference
+Filling Fault = CallOutcome (Result (Unit {0}) Fault) Preference
 
 -- pairs, or ranks, are filled from bytes; they meant the order `before`, and are left with another
 abbrev pub FillPairs : List ℕ → Preference → Filling PairsFault → Type 0
-FillPairs bs before fill = FillAnswer PairsLawful paired PairsRefused before fill.left bs fill.answer
+FillPairs bs before fill = FillAnswer PairsLawful order_of_pairs PairsRefused before fill.left bs fill.answer
 
 abbrev pub FillRanks : List ℕ → Preference → Filling (BadLength 7) → Type 0
-FillRanks bs before fill = FillAnswer RanksLawful ranked RanksRefused before fill.left bs fill.answer
+FillRanks bs before fill = FillAnswer RanksLawful order_of_ranks RanksRefused before fill.left bs fill.answer
 
 -- show is handed the sample book and the sample model, this order, and a list of seven places, which it leaves
-abbrev pub ShowSample : Preference → Outcome (Result ℕ ShowFault) (List ℕ) → Type 0
+abbrev pub ShowSample : Preference → CallOutcome (Result ℕ ShowFault) (List ℕ) → Type 0
 ShowSample o show = (length show.left ≡ 7) × ShowPromise sample sample_bytes o 7 show.left show.answer
 
 -- lists for so many constraints, edges and pending splits
@@ -78,11 +78,11 @@ abbrev pub Refute : Book → Lengths → List Step → Result Used RefuteFault �
 Refute bk ls ss answer = RefuteAnswer bk ls (encoded ss) answer
 
 -- seal is handed the sample book, and a buffer, which it leaves
-abbrev pub SealSample : List ℕ → Outcome (Result ℕ (BadLength 20)) (List ℕ) → Type 0
+abbrev pub SealSample : List ℕ → CallOutcome (Result ℕ (BadLength 20)) (List ℕ) → Type 0
 SealSample out seal = SealAnswer sample out seal.left seal.answer
 
 -- a node is offered to the sample book, which is left
-abbrev pub OfferNode : RawNode → Outcome (Result ℕ (OfferFault RawNode)) Book → Type 0
+abbrev pub OfferNode : RawNode → CallOutcome (Result ℕ (OfferFault RawNode)) Book → Type 0
 OfferNode raw offer = OfferAnswer nodes sample offer.left raw offer.answer
 
 -- the first n bytes of a buffer end in the bytes of this list
@@ -92,13 +92,13 @@ Ends bytes n out = slice_range out (n - length bytes) n ≡ bytes
 -- What the samples are: records that write the two books, the bytes of the two tableaux, and those of a model, in which
 -- names 0, 1 and 2 have the sets 3, 1 and 2. With 1 better than 0 they mean the sample model.
 pub record Samples : Type 0 where
-  pub book : (bk : Book) × Written nodes empty NODES bk × Written entries bk ENTRIES sample
-  pub question : Written entries sample (QUESTION ∷ []) refuted
+  pub book : (bk : Book) × ListGranted nodes empty NODES bk × ListGranted entries bk ENTRIES sample
+  pub question : ListGranted entries sample (QUESTION ∷ []) unsatisfiable_sample
   pub closed : REFUTATION ≡ encoded refutation
   pub wrong : WRONG_STEPS ≡ encoded wrong_steps
-  pub whole : Whole sample_bytes
-  pub names : (a : ℕ) → (said sample_bytes).names a ≡ slice_index (3 ∷ 1 ∷ 2 ∷ []) a
-  pub model : (f : Fits (said sample_bytes) (paired (pairs 2 0))) × SampleModel (meant (said sample_bytes) (paired (pairs 2 0)) f)
+  pub whole : HasModelLength sample_bytes
+  pub names : (a : ℕ) → (interpretation_of sample_bytes).names a ≡ slice_index (3 ∷ 1 ∷ 2 ∷ []) a
+  pub model : (f : Compatible (interpretation_of sample_bytes) (order_of_pairs (pairs 2 0))) × SampleModel (model_of (interpretation_of sample_bytes) (order_of_pairs (pairs 2 0)) f)
 
 pub record Rows : Type 0 where
   pub samples : Samples
@@ -112,9 +112,9 @@ pub record Rows : Type 0 where
   pub unlawful : (before : Preference) →
       Gives (FillPairs (pairs 2 1) before) (λ fill. RefusedAt pairs_fault_number pairs_fault_place 15 0 fill.answer × (fill.left ≡ before))
   -- the refutation, in lists for 5 constraints and 1 split: it names 4 entries
-  pub closed : (edges : ℕ) → Gives (Refute refuted (lists 5 edges 1) refutation) (λ answer. IsOkAnd answer (λ used. members used ≡ 4))
+  pub closed : (edges : ℕ) → Gives (Refute unsatisfiable_sample (lists 5 edges 1) refutation) (λ answer. IsOkAnd answer (λ used. member_count used ≡ 4))
   -- in lists for 4 constraints: step 6 finds no room
-  pub list_full : (edges : ℕ) → Gives (Refute refuted (lists 4 edges 1) refutation) (RefusedAt refute_fault_number refute_fault_place 11 6)
+  pub list_full : (edges : ℕ) → Gives (Refute unsatisfiable_sample (lists 4 edges 1) refutation) (RefusedAt refute_fault_number refute_fault_place 11 6)
   -- the wrong hand-in, in lists for 7 constraints and 2 splits or more: no rule has step 6
   pub no_rule : (ls : Lengths) → 7 ≤ ls.constraints → 2 ≤ ls.splits →
       Gives (Refute sample ls wrong_steps) (RefusedAt refute_fault_number refute_fault_place 10 6)

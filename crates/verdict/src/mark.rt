@@ -2,7 +2,7 @@
 ghost use Rattle.std.specs.Prelude.{◌≡◌, ◌<◌, ◌^◌};
 ghost use Rattle.verdict.specs.declared.Verdict.TheVariants as verdict;
 ghost use Rattle.verdict.specs.MarkFaults.{mark_fault_number, mark_fault_place};
-ghost use Rattle.verdict.specs.Marks.{whole, TableauAnswer, ModelAnswer, TableauMark, ModelMark};
+ghost use Rattle.verdict.specs.Marks.{marked_part, TableauAnswer, ModelAnswer, TableauMark, ModelMark};
 
 use crate::Verdict;
 use crate::mark_fault::MarkFault;
@@ -21,7 +21,7 @@ const RECORDS: usize = 4096;
 
 // The first 65,535 bytes.
 fn first(bytes: &[u8]) -> &[u8]
-    ensures { result.now ≡ whole bytes.now }
+    ensures { result.now ≡ marked_part bytes.now }
 {
     bytes.get(..WHOLE).unwrap_or(bytes)
 }
@@ -63,7 +63,7 @@ fn refused(fault: MarkFault) -> Verdict
 
 // Marks a tableau against a sealed book. Of each the first 65,535 bytes are the whole.
 pub fn mark_tableau(book: &[u8], steps: &[u8]) -> Verdict
-    ensures { TableauMark (whole book.now) (whole steps.now) result }
+    ensures { TableauMark (marked_part book.now) (marked_part steps.now) result }
 {
     match refuted(first(book), first(steps)) {
         Ok(entries) => Verdict::Closed(entries as u32),
@@ -73,7 +73,7 @@ pub fn mark_tableau(book: &[u8], steps: &[u8]) -> Verdict
 
 // Marks a model, with its "better" in pairs, against a sealed book. Of each the first 65,535 bytes are the whole.
 pub fn mark_model(book: &[u8], model: &[u8], pairs: &[u8]) -> Verdict
-    ensures { ModelMark (whole book.now) (whole model.now) (whole pairs.now) result }
+    ensures { ModelMark (marked_part book.now) (marked_part model.now) (marked_part pairs.now) result }
 {
     match satisfied(first(book), first(model), first(pairs)) {
         Ok(elements) => Verdict::Satisfied(elements as u32),

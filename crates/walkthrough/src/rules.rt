@@ -1,6 +1,6 @@
 // The rules of a book in readable form.
 use books::book::ReadableBook;
-use logic::records::{Entry, Line, Node};
+use logic::records::{Entry, Node, StoredEntry};
 use std::alloc::{AllocError, Global};
 use std::fmt;
 
@@ -14,12 +14,12 @@ fn text_of(texts: &[String], i: u16) -> &str {
 
 // A node or an entry, by the texts of the nodes before it.
 #[derive(Drop)]
-struct Shown<'a, T> {
+struct InWords<'a, T> {
     what: T,
     texts: &'a [String],
 }
 
-impl fmt::Display for Shown<'_, Node> {
+impl fmt::Display for InWords<'_, Node> {
     fn fmt<W: fmt::Write>(&self, f: &mut fmt::Formatter<W>) -> fmt::Result {
         let text = |c: u16| text_of(self.texts, c);
         match self.what {
@@ -42,7 +42,7 @@ impl fmt::Display for Shown<'_, Node> {
     }
 }
 
-impl fmt::Display for Shown<'_, Entry> {
+impl fmt::Display for InWords<'_, Entry> {
     fn fmt<W: fmt::Write>(&self, f: &mut fmt::Formatter<W>) -> fmt::Result {
         let text = |c: u16| text_of(self.texts, c);
         match self.what {
@@ -58,7 +58,7 @@ impl fmt::Display for Shown<'_, Entry> {
 fn concepts<B: ReadableBook>(heap: Global, book: &B) -> Result<Vec<String>, AllocError> {
     let mut texts = Vec::new(heap);
     for i in 0..book.node_count() {
-        let text = Shown {
+        let text = InWords {
             what: book.node_at(i),
             texts: texts.as_slice(),
         }
@@ -73,8 +73,8 @@ pub(crate) fn print<B: ReadableBook>(rt: &HostRuntime, book: &B) -> anyhow::Resu
     let texts = concepts(rt.alloc(), book)?;
     println!(rt; "The book has {} nodes and these rules.", book.node_count())?;
     for i in 0..book.entry_count() {
-        let Line { entry, live } = book.entry_at(i);
-        let rule = Shown {
+        let StoredEntry { entry, live } = book.entry_at(i);
+        let rule = InWords {
             what: entry,
             texts: texts.as_slice(),
         };

@@ -1,7 +1,7 @@
 use Rattle.std.proofs.Common.{refl, subst}
 use Rattle.std.proofs.lemmas.List.{take_all}
 use Rattle.std.proofs.lemmas.Result.{err_from_is_err_and}
-use Rattle.books.specs.Writing.{Written}
+use Rattle.books.specs.Writing.{ListGranted}
 use Rattle.books.proofs.Appending.{written_more, list_refused}
 use Rattle.books.proofs.write.write_all.Goals as goal
 
@@ -22,4 +22,4 @@ loop-raw-preserved g c =
 pub returns : goal.returns
 returns g c =
     let raws = c.args.raws.now in
-    subst (λ xs. Written g.R.Offered.offer (g.B.ReadableBook.meaning c.args.book.now) xs (g.B.ReadableBook.meaning c.loop-raw.book)) (take_all c.loop-raw.raw-index raws c.loop-raw-test.false) c.loop-raw.invariant
+    subst (λ xs. ListGranted g.R.Offered.offer (g.B.ReadableBook.meaning c.args.book.now) xs (g.B.ReadableBook.meaning c.loop-raw.book)) (take_all c.loop-raw.raw-index raws c.loop-raw-test.false) c.loop-raw.invariant

@@ -14,5 +14,5 @@ returns-clause-answer g c =
     answer_steps bk _ bs (g.B.ReadableBook.lawful c.args.book.now).well_formed (record { whole = c.if-n-ne0.false; few = omega arith }) c.work-answer.result
     c.work-answer.ensures.worked
 
-pub returns-clause-told : goal.returns-clause-told
-returns-clause-told g c = worked_told _ _ c.args.bytes.now c.work-answer.result c.work-answer.ensures.worked
+pub returns-clause-number_and_place : goal.returns-clause-number_and_place
+returns-clause-number_and_place g c = worked_told _ _ c.args.bytes.now c.work-answer.result c.work-answer.ensures.worked

@@ -5,12 +5,12 @@ use Rattle.judge.specs.Members.{marks_of}
 use Rattle.judge.specs.Progress.{begun, Finished, Underway}
 use Rattle.judge.specs.Steps.{first_steps, decoded}
 use Rattle.judge.specs.Blanks.{lengths_of}
-use Rattle.judge.specs.Shown.{second_of, Holds}
+use Rattle.judge.specs.WorkingLists.{second_branch, HoldsState}
 use Rattle.judge.specs.declared.faults.RefuteFault.TheVariants.{AtStep}
-use Rattle.judge.specs.Reasons.{Halted}
-use Rattle.judge.specs.Taking.{Took}
+use Rattle.judge.specs.Reasons.{StepsReason}
+use Rattle.judge.specs.Taking.{TakeAnswer}
 use Rattle.judge.proofs.Decoding.{steps_length, steps-take, chunk_step, chunk_room, chunk_rest, chunks_end}
-use Rattle.judge.proofs.Halting.{shown_start, same_lengths, same_again, is_sound, is_small, goes_on, breaks_off}
+use Rattle.judge.proofs.Halting.{shown_start, same_lengths, same_again, holds_some_state, is_small, goes_on, breaks_off}
 use Rattle.judge.proofs.Marks.{marks_next}
 use Rattle.judge.proofs.Standing.{Stands}
 use Rattle.judge.proofs.refute.work.Goals as goal
@@ -27,7 +27,7 @@ loop-i-init g c =
       rest = search rules;
       marks = subst (λ n. c.new-used.result.marks ≡ marks_of (first_steps n bs)) (sym none) c.new-used.ensures.unmarked;
       same = search rules;
-      stands = subst (λ n. Stands bk (lengths_of l) (first_steps n bs) (Holds l) (Some c.start.result)) (sym none) (start, [], begun, shown_start l c.start.result c.start.ensures);
+      stands = subst (λ n. Stands bk (lengths_of l) (first_steps n bs) (HoldsState l) (Some c.start.result)) (sym none) (start, [], begun, shown_start l c.start.result c.start.ensures);
     }
 
 pub returns-in_default-clause-worked : goal.returns-in_default-clause-worked
@@ -44,7 +44,7 @@ returns-in_default-clause-worked g c =
     subst (λ i. (i < length (decoded bs)) × Finished bk ls (take i (decoded bs))) (sym came.1) (
       omega (arith, steps_length bs (length bs / 5), room),
       subst (Finished bk ls) (sym (steps-take bs n (length bs / 5) (omega (arith, room))))
-          (subst (Stands bk ls (first_steps n bs) (Holds l.lists)) c.in_default.is l.invariant.stands),
+          (subst (Stands bk ls (first_steps n bs) (HoldsState l.lists)) c.in_default.is l.invariant.stands),
     )
 
 pub take-requires : goal.take-requires
@@ -60,7 +60,7 @@ take-requires g c =
     let is = c.step_of-step.ensures ∙ chunk_step bs n c.in-Some.chunk.now c.next.new.self.iter.rest.now five chunk in
     let long = same_lengths c.args.lists.now l.lists l.invariant.same in
     record {
-      sound = is_sound bk ls bs n c.step_of-step.result is l.open c.in-Some-open.at c.in-Some-open.is l.lists long l.invariant.stands;
+      state = holds_some_state bk ls bs n c.step_of-step.result is l.open c.in-Some-open.at c.in-Some-open.is l.lists long l.invariant.stands;
       small = is_small bk ls bs n c.step_of-step.result is l.open c.in-Some-open.at c.in-Some-open.is l.lists long l.invariant.stands (omega (arith, chunk_room bs n c.in-Some.chunk.now c.next.new.self.iter.rest.now five chunk, c.requires));
     }
 
@@ -80,10 +80,10 @@ returns-in_err-taken-clause-worked g c =
     let f = refused.0 in
     let fault : c.from_residual.result ≡ Err (AtStep c.in-Some.i f) = search rules in
     rw fault
-    (subst (λ i. Halted bk ls (decoded bs) (AtStep i f)) (sym came.1)
+    (subst (λ i. StepsReason bk ls (decoded bs) (AtStep i f)) (sym came.1)
     (breaks_off bk ls bs n c.step_of-step.result is l.open c.in-Some-open.at c.in-Some-open.is l.lists (same_lengths c.args.lists.now l.lists l.invariant.same) l.invariant.stands
-    (length bs / 5) f (Holds c.take.new.lists) (omega (arith, room))
-    (λ σ h. subst (Took bk (lengths_of l.lists) (Holds c.take.new.lists) σ.branch σ.pending c.step_of-step.result) refused.1 (c.take.ensures.took σ h))))
+    (length bs / 5) f (HoldsState c.take.new.lists) (omega (arith, room))
+    (λ σ h. subst (TakeAnswer bk (lengths_of l.lists) (HoldsState c.take.new.lists) σ.branch σ.pending c.step_of-step.result) refused.1 (c.take.ensures.answer σ h))))
 
 pub loop-i-preserved : goal.loop-i-preserved
 loop-i-preserved g c =
@@ -108,10 +108,10 @@ loop-i-preserved g c =
       rest = chunk_rest bs n c.in-Some.chunk.now rest five chunk ∙ ap (λ k. drop (5 * k) bs) (sym next);
       marks = subst (λ k. c.note.new.self.marks ≡ marks_of (first_steps k bs)) (sym next) (marks_next bs n c.step_of-step.result l.used.marks c.note.new.self.marks is l.invariant.marks c.note.ensures);
       same = same;
-      stands = subst (λ k. Stands bk ls (first_steps k bs) (Holds m) c.in_ok-taken.taken.at) (sym next)
+      stands = subst (λ k. Stands bk ls (first_steps k bs) (HoldsState m) c.in_ok-taken.taken.at) (sym next)
           (goes_on bk ls bs n c.step_of-step.result is l.open c.in-Some-open.at c.in-Some-open.is l.lists (same_lengths c.args.lists.now l.lists l.invariant.same) l.invariant.stands
           m c.in_ok-taken.taken (same_lengths c.args.lists.now m same)
-          (λ σ h. subst (Took bk (lengths_of l.lists) (Holds m) σ.branch σ.pending c.step_of-step.result) taken (c.take.ensures.took σ h)));
+          (λ σ h. subst (TakeAnswer bk (lengths_of l.lists) (HoldsState m) σ.branch σ.pending c.step_of-step.result) taken (c.take.ensures.answer σ h)));
     }
 
 pub returns-in-Some-open-2-clause-worked : goal.returns-in-Some-open-2-clause-worked
@@ -121,5 +121,5 @@ returns-in-Some-open-2-clause-worked g c =
     let l = c.loop-i in
     let n = l.i-iterator.count in
     let all : n ≡ length bs / 5 = chunks_end bs n l.i-iterator.iter.rest.now l.invariant.rest l.invariant.room (omega (arith, c.in-None.ensures.steps.0.1.0, l.invariant.size)) in
-    let found = subst (Stands bk (lengths_of c.args.lists.now) (first_steps n bs) (Holds l.lists)) c.in-Some-open-2.is l.invariant.stands in
-    (sym (steps_length bs (length bs / 5)), (found.0, map second_of found.1, subst (λ k. Underway bk (lengths_of c.args.lists.now) (first_steps k bs) found.0 (map second_of found.1)) all found.2))
+    let found = subst (Stands bk (lengths_of c.args.lists.now) (first_steps n bs) (HoldsState l.lists)) c.in-Some-open-2.is l.invariant.stands in
+    (sym (steps_length bs (length bs / 5)), (found.0, map second_branch found.1, subst (λ k. Underway bk (lengths_of c.args.lists.now) (first_steps k bs) found.0 (map second_branch found.1)) all found.2))

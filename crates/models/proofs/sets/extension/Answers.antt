@@ -5,7 +5,7 @@ use Rattle.orders.specs.Masks.{has, all_below, Preference}
 use Rattle.orders.proofs.MaskBits.{has-zero, has-and, has-or, has-all_below}
 use Rattle.models.specs.Interpretations.{Interpretation}
 use Rattle.models.specs.Fields.{size}
-use Rattle.models.specs.Held.{held, held_valid}
+use Rattle.models.specs.Views.{view_meaning, view_valid}
 use Rattle.models.specs.Extensions.{SetOfNode}
 use Rattle.models.specs.NodeMasks.{MaskOfNode}
 use Rattle.models.proofs.ConceptSets.{set_of_mask}
@@ -20,7 +20,7 @@ known i o list n m k e h =
 pub returns-in-Top : goal.returns-in-Top
 returns-in-Top g c =
     let v = c.args.view.now in
-    known _ _ _ _ _ Top c.in-Top.is (λ x. ap (λ m. has m x) c.all_below.ensures ∙ ap (λ n. has (all_below n) x) c.size.ensures ∙ has-all_below (held v).size x (held_valid v size).1)
+    known _ _ _ _ _ Top c.in-Top.is (λ x. ap (λ m. has m x) c.all_below.ensures ∙ ap (λ n. has (all_below n) x) c.size.ensures ∙ has-all_below (view_meaning v).size x (view_valid v size).1)
 
 pub returns-in-Bottom : goal.returns-in-Bottom
 returns-in-Bottom g c = known _ _ _ _ _ Bottom c.in-Bottom.is has-zero
@@ -38,4 +38,4 @@ pub returns-in-Absent : goal.returns-in-Absent
 returns-in-Absent g c = known _ _ _ _ _ Absent c.in-Absent.is has-zero
 
 pub returns-in-All-clause-set : goal.returns-in-All-clause-set
-returns-in-All-clause-set g c = set_of_mask (held c.args.view.now) (g.O.Order.meaning c.args.order.now) c.args.list.now c.args.node _ (search rules)
+returns-in-All-clause-set g c = set_of_mask (view_meaning c.args.view.now) (g.O.Order.meaning c.args.order.now) c.args.list.now c.args.node _ (search rules)

@@ -16,11 +16,11 @@ returns c =
     let f = c.args.frame.now in
     let ns = first_nodes f c.args.i in
     let cs = concepts ns in
-    let bk : Book = record { nodes = ns; lines = [] } in
+    let bk : Book = record { nodes = ns; entries = [] } in
     let raw = c.raw_node_at-raw.result in
     let count = length-nodes_in f.bytes.now (node_start f.bytes.now f.counts.nodes f.counts.entries) c.args.i in
-    let room : length ns < 512 = omega (arith, count, f.few_nodes, c.requires.there) in
-    let told = c.sides-sides.ensures ns c.requires.marked in
+    let room : length ns < 512 = omega (arith, count, f.few_nodes, c.requires.within) in
+    let told = c.plain_operands-plain_operands.ensures ns c.requires.marked in
     let h = judged_ok _ c.judge_node.result c.map_err.result _ (c.judge_node.ensures bk count told) c.in_ok-node.node c.map_err.ensures.cases c.in_ok-node.was in
     let granted = with_room 512 (length ns) (node_unfit bk raw) room ∙ h.0 in
     let is = c.raw_node_at-raw.ensures ∙ ap (raw_node_at f.bytes.now) c.node_place-at.ensures.place in
@@ -33,11 +33,11 @@ pub returns-in_err-node : goal.returns-in_err-node
 returns-in_err-node c =
     let f = c.args.frame.now in
     let ns = first_nodes f c.args.i in
-    let bk : Book = record { nodes = ns; lines = [] } in
+    let bk : Book = record { nodes = ns; entries = [] } in
     let raw = c.raw_node_at-raw.result in
     let count = length-nodes_in f.bytes.now (node_start f.bytes.now f.counts.nodes f.counts.entries) c.args.i in
-    let room : length ns < 512 = omega (arith, count, f.few_nodes, c.requires.there) in
-    let told = c.sides-sides.ensures ns c.requires.marked in
+    let room : length ns < 512 = omega (arith, count, f.few_nodes, c.requires.within) in
+    let told = c.plain_operands-plain_operands.ensures ns c.requires.marked in
     let is = c.raw_node_at-raw.ensures ∙ ap (raw_node_at f.bytes.now) c.node_place-at.ensures.place in
     let h = judged_err _ c.judge_node.result c.map_err.result _ (c.judge_node.ensures bk count told) c.in_err-node.field-0.0 c.map_err.ensures.cases c.in_err-node.was in
     let fault : c.from_residual.result ≡ Err (BadRecord h.0 c.node_place-at.result) = search rules in

@@ -1,7 +1,7 @@
 use Rattle.std.proofs.Common.{◌≡◌, sym, subst}
 use Rattle.std.proofs.lemmas.Option.{MatchOption-at_some}
 use Rattle.std.proofs.lemmas.Result.{err_from_is_err_and}
-use Rattle.sealed.specs.Frames.{Trailed}
+use Rattle.sealed.specs.Frames.{EndsInTrailer}
 use Rattle.sealed.proofs.Checking.{bad_node, bad_entry}
 use Rattle.sealed.proofs.check.checked.Goals as goal
 
@@ -18,6 +18,6 @@ returns-in_err-check_entries c =
     let bs = c.args.bytes.now in
     let m = c.in_ok-check_nodes.field-0 in
     let h = MatchOption-at_some _ _ c.in_ok-frame.frame c.in_ok-frame.ensures.ok_part c.read.ensures in
-    let k = subst (λ f. (f.bytes.now ≡ bs) × Trailed f) (sym c.in_ok-check_nodes.ensures) h in
+    let k = subst (λ f. (f.bytes.now ≡ bs) × EndsInTrailer f) (sym c.in_ok-check_nodes.ensures) h in
     let p = err_from_is_err_and c.from_residual-in_err-check_entries.result c.from_residual-in_err-check_entries.ensures.1 in
     rw (p.1, p.2) (bad_entry bs m.frame k.0 k.1 _ m.granted c.in_err-check_entries.ensures)

@@ -1,6 +1,6 @@
 use Rattle.std.proofs.Common.{◌≡◌, ◌+◌, ◌*◌, [], ◌++◌, take}
 use Rattle.std.specs.List.{flat_map}
-use Rattle.sealed.specs.Writing.{node_bytes, line_bytes}
+use Rattle.sealed.specs.Writing.{node_bytes, entry_bytes}
 use Rattle.sealed.proofs.Writings.{Front}
 use Rattle.sealed.proofs.seal.seal.Given as goal
 
@@ -12,4 +12,4 @@ invariant-loop-i g l =
 abbrev pub invariant-loop-j : goal.invariant-loop-j
 invariant-loop-j g l =
     let bk = g.B.ReadableBook.meaning l.book in
-    (l.at ≡ 5 * l.counts.nodes + 7 * l.j) × Front (flat_map node_bytes bk.nodes ++ flat_map line_bytes (take l.j bk.lines)) l.fn.out l.out l.at
+    (l.at ≡ 5 * l.counts.nodes + 7 * l.j) × Front (flat_map node_bytes bk.nodes ++ flat_map entry_bytes (take l.j bk.entries)) l.fn.out l.out l.at

@@ -1,5 +1,5 @@
 use Rattle.std.proofs.Common.{◌≤◌, true, vec_items, vec_len, sym, subst, arith}
-use Rattle.logic.specs.declared.records.Line.{Line}
+use Rattle.logic.specs.declared.records.StoredEntry.{StoredEntry}
 use Rattle.logic.specs.Written.{entry_of}
 use Rattle.logic.specs.Books.{Book}
 use Rattle.logic.specs.Lawful.{Lawful}
@@ -7,7 +7,7 @@ use Rattle.logic.proofs.Deciding.{lawful_known}
 use Rattle.logic.proofs.Refusing.{entry_granted}
 use Rattle.std.proofs.lemmas.List.{length_push}
 use Rattle.std.proofs.lemmas.Result.{err_from_is_err_and}
-use Rattle.books.specs.Marks.{bare}
+use Rattle.books.specs.Marks.{nodes_of}
 use Rattle.books.proofs.Changes.{with_entry_is}
 use Rattle.books.proofs.Exact.{entry_granted_exact, entry_refused_exact}
 use Rattle.books.proofs.slot_table.SlotTableEditableBook.enter.Goals as goal
@@ -15,24 +15,24 @@ use Rattle.books.proofs.slot_table.SlotTableEditableBook.enter.Goals as goal
 pub returns-in_err-entry-clause-exact : goal.returns-in_err-entry-clause-exact
 returns-in_err-entry-clause-exact c =
     let s = c.args.self.now in
-    let bk : Book = record { nodes = bare (vec_items s.nodes); lines = vec_items s.lines } in
+    let bk : Book = record { nodes = nodes_of (vec_items s.nodes); entries = vec_items s.entries } in
     let p = err_from_is_err_and c.from_residual.result c.from_residual.ensures.1 in
     rw p.1 (entry_refused_exact bk c.args.raw _ c.in_err-entry.ensures)
 
 pub invariant_of-self : goal.invariant_of-self
 invariant_of-self c =
     let s = c.args.self.now in
-    let bk : Book = record { nodes = bare (vec_items s.nodes); lines = vec_items s.lines } in
+    let bk : Book = record { nodes = nodes_of (vec_items s.nodes); entries = vec_items s.entries } in
     let h = c.in_ok-entry.ensures in
     let lawful = (entry_granted bk c.args.raw h.0).1 (lawful_known bk s.lawful) in
-    let grown = with_entry_is (bare (vec_items s.nodes)) (vec_items s.lines) (vec_items c.push_reserved.new.self) _ _ _ c.push_reserved.ensures.items c.taken.ensures h.1 in
-    let l : Line = record { entry = entry_of c.args.raw; live = true } in
-    let few : vec_len c.push_reserved.new.self ≤ 256 = omega (arith, lawful.well_formed.few_lines, length_push (vec_items s.lines) l, s.lines.ok.0) in
+    let grown = with_entry_is (nodes_of (vec_items s.nodes)) (vec_items s.entries) (vec_items c.push_reserved.new.self) _ _ _ c.push_reserved.ensures.items c.taken.ensures h.1 in
+    let l : StoredEntry = record { entry = entry_of c.args.raw; live = true } in
+    let few : vec_len c.push_reserved.new.self ≤ 256 = omega (arith, lawful.well_formed.few_entries, length_push (vec_items s.entries) l, s.entries.ok.0) in
     record {
       node_room = s.node_room;
-      line_room = omega (arith, s.line_room);
+      entry_room = omega (arith, s.entry_room);
       few_nodes = s.few_nodes;
-      few_lines = few;
+      few_entries = few;
       marked = s.marked;
       lawful = ∣ subst Lawful (sym grown) lawful ∣₁;
     }
@@ -40,7 +40,7 @@ invariant_of-self c =
 pub returns : goal.returns
 returns c =
     let s = c.args.self.now in
-    let bk : Book = record { nodes = bare (vec_items s.nodes); lines = vec_items s.lines } in
+    let bk : Book = record { nodes = nodes_of (vec_items s.nodes); entries = vec_items s.entries } in
     let h = c.in_ok-entry.ensures in
-    let grown = with_entry_is (bare (vec_items s.nodes)) (vec_items s.lines) (vec_items c.push_reserved.new.self) _ _ _ c.push_reserved.ensures.items c.taken.ensures h.1 in
+    let grown = with_entry_is (nodes_of (vec_items s.nodes)) (vec_items s.entries) (vec_items c.push_reserved.new.self) _ _ _ c.push_reserved.ensures.items c.taken.ensures h.1 in
     record { answer = (h.0, c.entry_count-count.ensures, grown); exact = entry_granted_exact bk c.args.raw (lawful_known bk s.lawful) h.0 }

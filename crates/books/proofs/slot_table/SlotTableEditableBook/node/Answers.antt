@@ -6,7 +6,7 @@ use Rattle.logic.specs.Books.{Book}
 use Rattle.logic.specs.Lawful.{Lawful}
 use Rattle.logic.proofs.Deciding.{lawful_known}
 use Rattle.logic.proofs.Refusing.{node_granted}
-use Rattle.books.specs.Marks.{bare}
+use Rattle.books.specs.Marks.{nodes_of}
 use Rattle.books.proofs.Changes.{with_node_is, bare_more, marked_more}
 use Rattle.books.proofs.Exact.{node_granted_exact, node_refused_exact}
 use Rattle.books.proofs.slot_table.SlotTableEditableBook.node.Goals as goal
@@ -14,7 +14,7 @@ use Rattle.books.proofs.slot_table.SlotTableEditableBook.node.Goals as goal
 pub returns-in_err-node-clause-exact : goal.returns-in_err-node-clause-exact
 returns-in_err-node-clause-exact c =
     let s = c.args.self.now in
-    let bk : Book = record { nodes = bare (vec_items s.nodes); lines = vec_items s.lines } in
+    let bk : Book = record { nodes = nodes_of (vec_items s.nodes); entries = vec_items s.entries } in
     let p = err_from_is_err_and c.from_residual.result c.from_residual.ensures.1 in
     rw p.1 (node_refused_exact bk c.args.raw _ c.in_err-node.ensures)
 
@@ -22,17 +22,17 @@ pub invariant_of-self : goal.invariant_of-self
 invariant_of-self c =
     let s = c.args.self.now in
     let ms = vec_items s.nodes in
-    let bk : Book = record { nodes = bare ms; lines = vec_items s.lines } in
+    let bk : Book = record { nodes = nodes_of ms; entries = vec_items s.entries } in
     let h = c.in_ok-node.ensures in
     let lawful = (node_granted bk c.args.raw h.0).1 (lawful_known bk s.lawful) in
     let more = c.push_reserved.ensures in
     let nodes = bare_more ms _ c.in_ok-node.node more.items in
-    let grown = with_node_is (bare ms) (bare (vec_items c.push_reserved.new.self)) (vec_items s.lines) _ _ nodes h.1 in
+    let grown = with_node_is (nodes_of ms) (nodes_of (vec_items c.push_reserved.new.self)) (vec_items s.entries) _ _ nodes h.1 in
     record {
       node_room = omega (arith, s.node_room);
-      line_room = s.line_room;
-      few_nodes = omega (arith, lawful.well_formed.few_nodes, length_push (bare ms) (node_of c.args.raw), length-map ms (λ m. m.node), s.nodes.ok.0);
-      few_lines = s.few_lines;
+      entry_room = s.entry_room;
+      few_nodes = omega (arith, lawful.well_formed.few_nodes, length_push (nodes_of ms) (node_of c.args.raw), length-map ms (λ m. m.node), s.nodes.ok.0);
+      few_entries = s.few_entries;
       marked = marked_more ms _ c.in_ok-node.node more.items s.marked h.2;
       lawful = ∣ subst Lawful (sym grown) lawful ∣₁;
     }
@@ -41,7 +41,7 @@ pub returns : goal.returns
 returns c =
     let s = c.args.self.now in
     let ms = vec_items s.nodes in
-    let bk : Book = record { nodes = bare ms; lines = vec_items s.lines } in
+    let bk : Book = record { nodes = nodes_of ms; entries = vec_items s.entries } in
     let h = c.in_ok-node.ensures in
-    let grown = with_node_is (bare ms) (bare (vec_items c.push_reserved.new.self)) (vec_items s.lines) _ _ (bare_more ms _ c.in_ok-node.node c.push_reserved.ensures.items) h.1 in
+    let grown = with_node_is (nodes_of ms) (nodes_of (vec_items c.push_reserved.new.self)) (vec_items s.entries) _ _ (bare_more ms _ c.in_ok-node.node c.push_reserved.ensures.items) h.1 in
     record { answer = (h.0, c.node_count-count.ensures, grown); exact = node_granted_exact bk c.args.raw (lawful_known bk s.lawful) h.0 }

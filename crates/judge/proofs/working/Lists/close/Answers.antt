@@ -17,8 +17,8 @@ overflow_add-result c =
     let within : (get_or c.args.self.now.splits.now c.in_ok-left.left no_split).constraints < length c.cut_back-2.new.list =
     omega (arith, latest_within _ _ _ _ _ _ c.requires.1 c.in_ok-left.left (omega arith), c.cut_back-2.auto.list) in search rules
 
-pub returns-clause-goes : goal.returns-clause-goes
-returns-clause-goes c =
+pub returns-clause-transforms : goal.returns-clause-transforms
+returns-clause-transforms c =
     λ σ h.
     close_back σ.branch σ.pending c.args.at c.args.self.now.constraints.now c.args.self.now.edges.now c.args.self.now.splits.now h
     c.in_ok-left.left (omega arith) c.cut_back-2.new.list c.cut_back-3.new.list c.cut_back.new.list c.cut_back-2.auto.list c.cut_back-3.auto.list c.cut_back.auto.list

@@ -3,8 +3,8 @@ use Rattle.std.proofs.lemmas.Bool.{leb-true}
 use Rattle.judge.proofs.Showing.{split_ok}
 use Rattle.judge.proofs.working.Lists.split.Goals as goal
 
-pub returns-clause-goes : goal.returns-clause-goes
-returns-clause-goes c =
+pub returns-clause-transforms : goal.returns-clause-transforms
+returns-clause-transforms c =
     λ σ h.
     split_ok σ.branch σ.pending c.args.at c.args.self.now.constraints.now c.args.self.now.edges.now c.args.self.now.splits.now h
     c.args.first c.args.second c.append-2.new.list c.append.new.list

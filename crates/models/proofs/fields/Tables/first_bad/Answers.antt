@@ -5,15 +5,15 @@ use Rattle.models.proofs.fields.Tables.first_bad.Goals as goal
 pub returns-in-Some : goal.returns-in-Some
 returns-in-Some c = bad_name c.args.self.now (omega arith, omega arith) c.in-Some.a c.in-Some.ensures
 
-pub returns-in-Some-first_led : goal.returns-in-Some-first_led
-returns-in-Some-first_led c =
-    bad_role c.args.self.now (omega arith, omega arith) c.loop-r.r c.in-Some-first_led.x c.loop-r-test.true (omega arith)
-    c.in_default.ensures c.loop-r.invariant c.in-Some-first_led.ensures.lowest
+pub returns-in-Some-first_bad_row : goal.returns-in-Some-first_bad_row
+returns-in-Some-first_bad_row c =
+    bad_role c.args.self.now (omega arith, omega arith) c.loop-r.r c.in-Some-first_bad_row.x c.loop-r-test.true (omega arith)
+    c.in_default.ensures c.loop-r.invariant c.in-Some-first_bad_row.ensures.lowest
 
 pub loop-r-preserved : goal.loop-r-preserved
 loop-r-preserved c =
     below_more _ _ c.loop-r.invariant
-    (row_good c.args.self.now (omega arith, omega arith) c.loop-r.r c.in_default-first_led.ensures.lowest c.in_default-first_led.ensures.past)
+    (row_good c.args.self.now (omega arith, omega arith) c.loop-r.r c.in_default-first_bad_row.ensures.lowest c.in_default-first_bad_row.ensures.past)
 
 pub returns : goal.returns
 returns c =

@@ -2,13 +2,13 @@ use Rattle.std.proofs.Common.{ℕ, ◌+◌, ◌*◌, ◌≤◌, cond, ◌&&◌, 
 use mathlib.Core.Path.{fun_ext}
 use Rattle.std.proofs.lemmas.Bool.{le-ltb}
 use Rattle.orders.specs.Bytes.{byte, word}
-use Rattle.orders.specs.Masks.{Table}
-use Rattle.models.specs.Interpretations.{said}
+use Rattle.orders.specs.Masks.{Tabulates}
+use Rattle.models.specs.Interpretations.{interpretation_of}
 use Rattle.orders.proofs.Making.{made_at, made_table}
 use Rattle.models.proofs.fields.Tables.from_bytes.Goals as goal
 
 -- past the last role nothing is said
-no_row : (bs : List ℕ) (r : ℕ) → 16 ≤ r → Table ((said bs).led r) []
+no_row : (bs : List ℕ) (r : ℕ) → 16 ≤ r → Tabulates ((interpretation_of bs).successors r) []
 no_row bs r l x = ap (λ b. cond (b && ltb x 32) (word bs (257 + 4 * (32 * r + x))) 0) (sym (le-ltb r 16 l))
 
 pub returns : goal.returns
@@ -17,6 +17,6 @@ returns c = λ t.
     record {
       size = c.byte_at.ensures t;
       names = fun_ext (made_table (λ a. word bs (1 + 4 * a)) c.from_fn.ensures.items (λ a y q l h. search rules)) t;
-      led = fun_ext (λ r. fun_ext (made_at (λ r row. Table ((said bs).led r) row) c.from_fn-2.ensures.items (λ r row q l h. search rules) [] (no_row bs) r)) t;
+      successors = fun_ext (λ r. fun_ext (made_at (λ r row. Tabulates ((interpretation_of bs).successors r) row) c.from_fn-2.ensures.items (λ r row q l h. search rules) [] (no_row bs) r)) t;
       individual = fun_ext (made_table (λ a. byte bs (2305 + a)) c.from_fn-3.ensures.items (λ a y q l h. search rules)) t;
     }

@@ -2,7 +2,7 @@ use Rattle.std.proofs.Common.{length, ◌∙◌}
 use Rattle.logic.specs.Written.{entry_of}
 use Rattle.logic.specs.Books.{with_entry, with_strike}
 use Rattle.repeats.proofs.Copying.{struck_copied}
-use Rattle.repeats.proofs.copy.copy_line.Goals as goal
+use Rattle.repeats.proofs.copy.copy_entry.Goals as goal
 
 pub returns-in-Ok-strike : goal.returns-in-Ok-strike
 returns-in-Ok-strike g c =
@@ -10,5 +10,5 @@ returns-in-Ok-strike g c =
     let before = c.requires.before in
     c.in-Ok-strike.ensures.1
     ∙ (λ i. with_strike (entered.2 i) (entered.1 i))
-    ∙ (λ i. with_strike (with_entry (before i) (entry_of c.from.result)) (length (before i).lines))
-    ∙ struck_copied _ c.args.j c.entry_at-line.result c.from.result c.requires.there c.entry_at-line.ensures c.if-line.false c.from.ensures
+    ∙ (λ i. with_strike (with_entry (before i) (entry_of c.from.result)) (length (before i).entries))
+    ∙ struck_copied _ c.args.j c.entry_at-stored.result c.from.result c.requires.within c.entry_at-stored.ensures c.if-stored.false c.from.ensures

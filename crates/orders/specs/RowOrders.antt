@@ -1,5 +1,5 @@
 -- The order that rows hold, and the evidence that it is strict.
--- order_of: what rows mean. order_strict: it is strict.
+-- order_of_rows: what rows mean. order_strict: it is strict.
 -- Assumes nothing.
 use Rattle.std.proofs.Math.Bool.{Bool-set}
 use Rattle.std.proofs.Math.Logic.{∥∥₁_elim}
@@ -9,11 +9,11 @@ use Rattle.orders.specs.declared.rows.Rows.{Rows}
 use Rattle.orders.specs.Masks.{Preference, Strict, by_rows}
 
 -- what rows mean
-abbrev pub order_of : Rows → Preference
-order_of r = by_rows r.size r.masks
+abbrev pub order_of_rows : Rows → Preference
+order_of_rows r = by_rows r.size r.masks
 
 -- the laws have one proof at most, so that rows, of which they are known to hold, have their evidence
-pub order_strict : (r : Rows) → Strict (order_of r)
+pub order_strict : (r : Rows) → Strict (order_of_rows r)
 order_strict r =
     ∥∥₁_elim r.strict
     (λ s t i. record {

@@ -1,5 +1,5 @@
 -- What a view holds, and the evidence that it is valid.
--- by_tables: the interpretation of tables. held: that of a view. held_valid: it is valid.
+-- by_tables: the interpretation of tables. view_meaning: that of a view. view_valid: it is valid.
 -- Assumes nothing.
 use Rattle.std.proofs.Math.Logic.{∥∥₁_elim}
 use Rattle.std.specs.Prelude.{◌≡◌}
@@ -11,8 +11,8 @@ use Rattle.models.specs.Tables.{by_tables}
 use Rattle.models.specs.Fields.{Field, size, name, role, individual, Good, Valid}
 
 -- what a view holds
-abbrev pub held : View → Interpretation
-held v = by_tables v.tables
+abbrev pub view_meaning : View → Interpretation
+view_meaning v = by_tables v.tables
 
 good_once : (i : Interpretation) (f : Field) (a b : Good i f) → a ≡ b
 good_once i size a b = λ t. (le_prop a.0 b.0 t, le_prop a.1 b.1 t)
@@ -21,5 +21,5 @@ good_once i (role r x) a b = λ t. (λ y h. le_prop (a.0 y h) (b.0 y h) t, λ l.
 good_once i (individual n) a b = λ t. le_prop a b t
 
 -- validity has one proof at most, so that a view, of which it is known, has the evidence
-pub held_valid : (v : View) → Valid (held v)
-held_valid v = ∥∥₁_elim v.valid (λ a b t f. good_once (held v) f (a f) (b f) t) (λ a. a)
+pub view_valid : (v : View) → Valid (view_meaning v)
+view_valid v = ∥∥₁_elim v.valid (λ a b t f. good_once (view_meaning v) f (a f) (b f) t) (λ a. a)
