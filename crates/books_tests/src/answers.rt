@@ -1,4 +1,4 @@
-// What a call answered, in numbers that can be compared.
+// Calls of a book, with answers that can be compared.
 use books::book::EditableBook;
 use books::journal::Journal;
 use books::slot_table::SlotTable;
@@ -6,10 +6,10 @@ use logic::records::{RawEntry, RawNode};
 use logic::refusal::told;
 use std::alloc::AllocError;
 
-// What was granted, or the number and the place of the refusal.
+// The number that was granted, or the refusal's number and place.
 pub(crate) type Answer = Result<u16, (u8, usize)>;
 
-// By number, as records are offered.
+// Offers a node by its numbers.
 pub(crate) fn node<B: EditableBook>(book: &mut B, kind: u8, a: u16, b: u16) -> Answer {
     book.node(RawNode { kind, a, b })
         .map_err(|fault| told(&fault))
@@ -24,7 +24,7 @@ pub(crate) fn strike<B: EditableBook>(book: &mut B, i: u16) -> Answer {
     book.strike(i).map(|()| i).map_err(|fault| told(&fault))
 }
 
-// A new book of each kind.
+// An empty book of each kind.
 pub(crate) fn both(rt: &HostRuntime) -> Result<(SlotTable, Journal), AllocError> {
     let table = EditableBook::new(rt.alloc())?;
     let journal = EditableBook::new(rt.alloc())?;

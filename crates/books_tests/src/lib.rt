@@ -1,5 +1,4 @@
-// Tests of editable books at their limits, the same for every kind of book. Each test runs a generic function on
-// both kinds; a trait with a generic method, one impl for each test, would say no more in more lines.
+// Tests of editable books at their limits. Each test runs a generic function on both kinds of book.
 #![tactic(auto)]
 
 #[cfg(test)]

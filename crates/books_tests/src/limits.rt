@@ -1,4 +1,4 @@
-// The limits on numbers and counts, and what stands past the end.
+// The limits on numbers and counts, and the answers past the end.
 use crate::answers::{both, enter, node, strike};
 use books::book::{EditableBook, ReadableBook};
 use books::write::write_all;
@@ -12,7 +12,7 @@ fn node_limit<B: EditableBook>(rt: &impl Abort, book: &mut B) {
     }
     assert_eq!(rt; book.node_count(), 512);
     assert_eq!(rt; node(book, 0, 0, 0), Err((1, 512)));
-    // the limit comes before an unknown kind
+    // the limit is tested before the kind
     assert_eq!(rt; node(book, 9, 0, 0), Err((1, 512)));
     assert_eq!(rt; book.node_count(), 512);
 }
@@ -42,8 +42,7 @@ fn entry_256_is_granted_and_257_refused(rt: HostRuntime) -> Result<(), Fail> {
     Ok(())
 }
 
-// By number, as records are offered.
-// Nodes that are refused by a book of one node, with the number of the refusal.
+// Nodes (kind, a, b) that a book of one node refuses, with the refusal number.
 const BAD_NODES: [(u8, u16, u16, u8); 22] = [
     (9, 0, 0, 2),
     (255, 0, 0, 2),
@@ -69,7 +68,7 @@ const BAD_NODES: [(u8, u16, u16, u8); 22] = [
     (8, 1, 0, 4),
 ];
 
-// Nodes that a book grants one after the other.
+// Nodes that a book grants in this order.
 const GOOD_NODES: [(u8, u16, u16); 8] = [
     (2, 63, 0),
     (6, 15, 0),
@@ -100,7 +99,7 @@ fn nodes_are_refused_past_their_limits(rt: HostRuntime) -> Result<(), Fail> {
     Ok(())
 }
 
-// Entries that are refused by a book of one node and one entry, with the number of the refusal.
+// Entries (kind, a, b, c) that a book of one node and one entry refuses, with the refusal number.
 const BAD_ENTRIES: [(u8, u16, u16, u16, u8); 13] = [
     (0, 0, 0, 0, 2),
     (4, 0, 0, 0, 2),
@@ -117,7 +116,7 @@ const BAD_ENTRIES: [(u8, u16, u16, u16, u8); 13] = [
     (2, 0, 1, 0, 4),
 ];
 
-// Entries that it grants.
+// Entries that this book grants.
 const GOOD_ENTRIES: [(u8, u16, u16, u16); 3] = [(1, 0, 0, 0), (2, 31, 0, 0), (3, 15, 31, 31)];
 
 fn entries_at_their_limits<B: EditableBook>(rt: &impl Abort, book: &mut B) {
@@ -140,7 +139,7 @@ fn entries_are_refused_past_their_limits(rt: HostRuntime) -> Result<(), Fail> {
     Ok(())
 }
 
-// 512 nodes, 256 entries and 256 strikes.
+// Fills a book: 512 nodes, 256 entries, and a strike of each.
 fn filled<B: EditableBook>(rt: &impl Abort, book: &mut B) {
     node_limit(rt, book);
     entry_limit(rt, book);

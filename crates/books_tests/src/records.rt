@@ -1,4 +1,4 @@
-// What a book answers of its records: as they were offered, past the end, and after a strike.
+// A book's answers about its records: as offered, past the end, and after a strike.
 use crate::answers::{both, strike};
 use books::book::{EditableBook, ReadableBook};
 use books::sample;
@@ -7,8 +7,7 @@ use logic::records::{RawEntry, RawNode};
 use std::process::Abort;
 use std::test::Fail;
 
-// By number, as records are offered.
-// What stands past the end.
+// The answer past the last node.
 const NO_NODE: RawNode = RawNode {
     kind: 255,
     a: 0,

@@ -6,8 +6,7 @@ use logic::records::RawNode;
 use std::process::Abort;
 use std::test::Fail;
 
-// By number, as records are offered.
-// Names a and b, T(a), not T(a), T(a) and b, b or T(a).
+// Nodes (kind, a, b): names a and b, T(a), not T(a), T(a) and b, b or T(a).
 const NODES: [(u8, u16, u16); 6] = [
     (2, 0, 0),
     (2, 1, 0),

@@ -1,4 +1,4 @@
-// Calls of a docket, and what they answered in values that can be compared.
+// Calls of a docket, with answers that can be compared.
 use books::book::EditableBook;
 use books::sample;
 use docket::docket::Docket;
@@ -20,7 +20,7 @@ pub enum Call {
     Show,
 }
 
-// What was granted, or which call was refused, with the number and the place of the refusal.
+// The answer that was granted; or the refused call, with the refusal's number and place.
 pub(crate) type Answer<T> = Result<T, (Call, u8, usize)>;
 
 fn refused(fault: Fault) -> (Call, u8, usize) {
@@ -58,7 +58,7 @@ pub(crate) fn strike<B: EditableBook>(docket: &mut Docket<B>, i: u16) -> Answer<
     docket.strike(i).map_err(refused)
 }
 
-// With lists of 5 constraints, 1 edge and 1 split.
+// Refutes with lists of 5 constraints, 1 edge and 1 split.
 pub(crate) fn refute<B: EditableBook>(docket: &mut Docket<B>, steps: &[u8]) -> Answer<u16> {
     let mut constraints = [Blank::blank(); 5];
     let mut edges = [Blank::blank(); 1];
@@ -77,14 +77,14 @@ pub(crate) fn show<B: EditableBook, O: Order>(
     docket.show(bytes, order, list).map_err(refused)
 }
 
-// The sample model, with these pairs and a list of 7.
+// Shows the sample model with these pairs and a list of 7.
 pub(crate) fn show_sample<B: EditableBook>(docket: &mut Docket<B>, pairs: &[u8]) -> Answer<u8> {
     let mut order = Pairs::new();
     let _ = order.fill(pairs);
     show(docket, &model_bytes(), &order, &mut [0; 7])
 }
 
-// The sample book is written.
+// Writes the sample book.
 pub(crate) fn write_sample<B: EditableBook>(docket: &mut Docket<B>) {
     for raw in &sample::NODES {
         let _ = docket.node(*raw);

@@ -1,4 +1,4 @@
-// A run through every cell of the table that occurs.
+// A run through every cell of the table that can occur.
 use crate::answers::{enter, refute, show_sample, strike, write_sample};
 use books::book::EditableBook;
 use books::journal::Journal;
@@ -12,7 +12,7 @@ use std::test::Fail;
 
 const PAIRS: [u8; 8] = [2, 0, 0, 0, 0, 0, 0, 0];
 
-// From open to shown, and back by an entry; then refuted.
+// From open to shown, to open by an entry, to refuted.
 fn to_refuted<B: EditableBook>(rt: &impl Abort, docket: &mut Docket<B>) -> Result<(), Fail> {
     write_sample(docket);
     assert_eq!(rt; docket.standing(), Standing::Open);
@@ -29,7 +29,7 @@ fn to_refuted<B: EditableBook>(rt: &impl Abort, docket: &mut Docket<B>) -> Resul
     Ok(())
 }
 
-// An entry comes and goes, and nothing moves; then one goes that the tableau used.
+// Entering and striking an unused entry changes nothing; striking a used entry leads to open.
 fn to_open<B: EditableBook>(rt: &impl Abort, docket: &mut Docket<B>) -> Result<(), Fail> {
     assert_eq!(rt; enter(docket, 2, 1, 0, 0), Ok(4));
     assert_eq!(rt; docket.standing(), Standing::Refuted);
@@ -43,7 +43,7 @@ fn to_open<B: EditableBook>(rt: &impl Abort, docket: &mut Docket<B>) -> Result<(
     Ok(())
 }
 
-// Strikes leave shown, of entries used and of others; and open, of an entry used.
+// Strikes change nothing: from shown of used and unused entries, from open of a used entry.
 fn to_shown_and_open<B: EditableBook>(rt: &impl Abort, docket: &mut Docket<B>) -> Result<(), Fail> {
     assert_eq!(rt; enter(docket, 2, 1, 0, 0), Ok(6));
     assert_eq!(rt; show_sample(docket, &PAIRS), Ok(2));

@@ -1,4 +1,4 @@
-// A list of calls, played on a new docket, leads to the standing to which the calls lead one by one.
+// Playing a list of calls leads to the same standing as making the calls one by one.
 use books::book::EditableBook;
 use books::journal::Journal;
 use books::sample;
@@ -12,7 +12,7 @@ use std::alloc::Global;
 use std::process::Abort;
 use std::test::Fail;
 
-// The sample book, its model, the question, its refutation, and the strike of an entry used.
+// The calls: the sample book, its model, the question, its refutation, and the strike of a used entry.
 fn calls<'a>(
     heap: Global,
     model: &'a [u8],
@@ -35,7 +35,7 @@ fn calls<'a>(
     Ok(calls)
 }
 
-// Where a new docket stands after the first n calls.
+// The standing of a new docket after the first n calls.
 fn standing_after<B: EditableBook>(
     heap: Global,
     calls: &[Call<&[u8], Pairs>],

@@ -1,4 +1,4 @@
-// Every refusal is passed through with the call named, and moves nothing.
+// Every refusal of the book and the judge reaches the caller with the call named, and changes nothing.
 use crate::answers::{Call, enter, node, refute, show, show_sample, strike, write_sample};
 use books::book::EditableBook;
 use books::slot_table::SlotTable;
@@ -12,7 +12,7 @@ use std::test::Fail;
 
 const PAIRS: [u8; 8] = [2, 0, 0, 0, 0, 0, 0, 0];
 
-// A shown docket over the sample book.
+// A docket over the sample book whose standing is shown.
 fn shown(rt: &impl Abort, heap: Global) -> Result<Docket<SlotTable>, Fail> {
     let mut docket: Docket<SlotTable> = Docket::new(heap)?;
     write_sample(&mut docket);

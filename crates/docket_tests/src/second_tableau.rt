@@ -1,4 +1,4 @@
-// A second tableau that no longer uses an entry: its strike then lifts nothing.
+// After a second tableau, striking an entry that only the first used leaves the docket refuted.
 use crate::answers::{Call, enter, node, refute, strike};
 use books::book::EditableBook;
 use books::journal::Journal;
@@ -9,7 +9,7 @@ use std::alloc::Global;
 use std::process::Abort;
 use std::test::Fail;
 
-// Individuals 0 and 1 hold bottom, by entries 0 and 1. Each tableau closes by one of them.
+// Entries 0 and 1: individuals 0 and 1 are in bottom. Each tableau uses one of them.
 fn two_tableaux<B: EditableBook>(rt: &impl Abort, heap: Global) -> Result<(), Fail> {
     let mut d: Docket<B> = Docket::new(heap)?;
     assert_eq!(rt; node(&mut d, 1, 0, 0), Ok(0));

@@ -1,10 +1,10 @@
-// Numbers that are written over what a file has.
+// Fields: numbers that replace bytes of a file.
 use crate::numbers::Size::{Four, One};
 use crate::numbers::{Size, numbers, push};
 use anyhow::{Context, Result};
 use std::alloc::Global;
 
-// Where a number goes, how many bytes it has, and which it is.
+// A number, its place in the file and its size.
 #[derive(Clone, Copy)]
 struct Field {
     at: usize,
@@ -12,7 +12,7 @@ struct Field {
     number: u32,
 }
 
-// The field of an interpretation that a line names, or a byte of any file.
+// The field that a line sets: of an interpretation, or one byte of any file.
 fn field_of(key: &str, numbers: &[u32]) -> Option<Field> {
     let (at, size, number) = match (key, numbers) {
         ("elements", [n]) => (0, One, *n),
@@ -25,7 +25,7 @@ fn field_of(key: &str, numbers: &[u32]) -> Option<Field> {
     Some(Field { at, size, number })
 }
 
-// Writes fields with commas between.
+// Writes comma-separated fields.
 pub(crate) fn write(heap: Global, file: &mut Vec<u8>, key: &str, text: &str) -> Result<()> {
     for item in text.split(',') {
         let field = field_of(key, &numbers(heap, item)?).context("no such field")?;

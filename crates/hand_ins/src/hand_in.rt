@@ -1,4 +1,4 @@
-// A hand-in, as it is read line by line.
+// A hand-in, read line by line.
 use crate::fields;
 use crate::numbers::Size::{Four, One, Two};
 use crate::numbers::append;
@@ -7,7 +7,7 @@ use std::alloc::Global;
 use verdict::Verdict;
 use verdict::mark::{mark_model, mark_tableau};
 
-// How many bytes an interpretation has.
+// The length of an interpretation, in bytes.
 const MODEL: usize = 2337;
 
 #[derive(Clone, Copy)]
@@ -22,13 +22,13 @@ enum File {
 pub(crate) struct HandIn<'a> {
     pub(crate) name: &'a str,
     heap: Global,
-    // or else a model
+    // true: a tableau; false: a model
     is_tableau: bool,
     book: Vec<u8>,
     steps: Vec<u8>,
     model: Vec<u8>,
     pairs: Vec<u8>,
-    // the file that was written last
+    // the file that was written last, for `bytes`, `set` and `cut`
     last: File,
 }
 
@@ -54,7 +54,7 @@ impl<'a> HandIn<'a> {
         }
     }
 
-    // Another hand-in over the same book, so far with no other file.
+    // Begins another hand-in over the same book; its other files are empty.
     fn begin(&mut self, name: &'a str, is_tableau: bool) {
         self.name = name;
         self.is_tableau = is_tableau;
@@ -63,7 +63,7 @@ impl<'a> HandIn<'a> {
         self.pairs.clear();
     }
 
-    // The file that is written from here on.
+    // The file to write; it becomes the last one written.
     fn file(&mut self, file: File) -> &mut Vec<u8> {
         self.last = file;
         match file {
@@ -74,7 +74,7 @@ impl<'a> HandIn<'a> {
         }
     }
 
-    // Reads a line, of which the first word stands apart.
+    // Reads a line: `key` is its first word, `rest` what follows.
     pub(crate) fn read(&mut self, key: &str, rest: &'a str) -> Result<()> {
         let heap = self.heap;
         let last = self.last;

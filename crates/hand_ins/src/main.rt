@@ -1,4 +1,4 @@
-// Marks stored hand-ins, each against the line that is expected of it, and counts what came of them.
+// Marks stored hand-ins, compares each line with the expected one, and counts the verdicts.
 #![tactic(auto)]
 
 mod fields;
@@ -12,10 +12,10 @@ use std::fs;
 use tally::Tally;
 use verdict::line::{LONGEST, line};
 
-// In the folder data/, whose page says how a hand-in is written.
+// The texts in data/. data/README.md has their format.
 const FILES: [&str; 4] = ["books.txt", "tableaux.txt", "models.txt", "limits.txt"];
 
-// Marks a hand-in and prints its name, its line, and whether it was expected.
+// Marks a hand-in; prints its name, its line, and whether it is the expected one.
 fn mark(rt: &impl Print, hand_in: &HandIn, expected: &str, tally: &mut Tally) -> Result<()> {
     let verdict = hand_in.mark();
     let mut buffer = [0; LONGEST];
@@ -33,7 +33,7 @@ fn mark(rt: &impl Print, hand_in: &HandIn, expected: &str, tally: &mut Tally) ->
     Ok(())
 }
 
-// Marks the hand-ins of a text, each where its last line stands.
+// Marks the hand-ins of a text, each at its line `expect`.
 fn mark_all<R: Print + AllocGlobal>(rt: &R, text: &str, tally: &mut Tally) -> Result<()> {
     let mut hand_in = HandIn::new(rt.alloc());
     for line in text.lines() {

@@ -1,8 +1,8 @@
-// Numbers in text, and their bytes.
+// Numbers: from text to bytes.
 use anyhow::{Context, Result, ensure};
 use std::alloc::Global;
 
-// How many bytes a number has in a file, the low byte first.
+// The size of a number in a file, in bytes. The low byte comes first.
 #[derive(Clone, Copy)]
 pub(crate) enum Size {
     One,
@@ -10,7 +10,7 @@ pub(crate) enum Size {
     Four,
 }
 
-// Decimal numbers with spaces between.
+// Decimal numbers, separated by spaces.
 pub(crate) fn numbers(heap: Global, text: &str) -> Result<Vec<u32>> {
     let mut numbers = Vec::new(heap);
     for word in text.split_whitespace() {
@@ -31,7 +31,7 @@ pub(crate) fn push(bytes: &mut Vec<u8>, number: u32, size: Size) -> Result<()> {
     Ok(())
 }
 
-// The bytes of a record, which has a number of each size.
+// The bytes of a record: one number for each size.
 fn record(heap: Global, sizes: &[Size], text: &str) -> Result<Vec<u8>> {
     let numbers = numbers(heap, text)?;
     ensure!(
@@ -46,7 +46,7 @@ fn record(heap: Global, sizes: &[Size], text: &str) -> Result<Vec<u8>> {
     Ok(bytes)
 }
 
-// Appends records with commas between; one that ends in `x 3` is written three times.
+// Appends comma-separated records; one that ends in `x 3` is written three times.
 pub(crate) fn append(heap: Global, file: &mut Vec<u8>, sizes: &[Size], text: &str) -> Result<()> {
     for item in text.split(',') {
         let (text, times) = item.split_once('x').unwrap_or((item, "1"));

@@ -1,4 +1,4 @@
-// How many hand-ins came to what.
+// Counts of verdicts.
 use std::io;
 use verdict::Verdict;
 
@@ -8,7 +8,7 @@ pub(crate) struct Tally {
     others: u32,
     closed: u32,
     satisfied: u32,
-    // by the number of the refusal
+    // by refusal number
     refused: [u32; 21],
 }
 

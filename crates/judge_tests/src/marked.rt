@@ -1,4 +1,4 @@
-// What a call answered, in numbers that can be compared; and books to ask about.
+// Calls of show, with answers that can be compared; and books for them.
 use books::book::{EditableBook, ReadableBook};
 use books::sample;
 use books::slot_table::SlotTable;
@@ -8,7 +8,7 @@ use logic::refusal::told;
 use orders::order::Order;
 use std::alloc::{AllocError, Global};
 
-// What show answered, with a refusal by its number and its place.
+// The answer of show; a refusal by number and place.
 pub(crate) fn shown<B: ReadableBook, O: Order>(
     book: &B,
     bytes: &[u8],

@@ -7,12 +7,12 @@ use std::alloc::{AllocError, Global};
 use std::process::Abort;
 use std::test::Fail;
 
-// By number, as records and hand-ins are written: the tables are apart from the crate's own types.
-// The kinds of nodes 0 to 7: a name, top, bottom, not, and, or, all and some, of the name.
+// The tables use plain numbers, not the crate's own types.
+// The kinds of nodes 0 to 7: a name, top, bottom; not, and, or, all and some of this name.
 const KINDS: [u8; 8] = [2, 0, 1, 3, 4, 5, 6, 7];
 
-// Nodes 0 to 7 are of those kinds, 8 to 15 are T of each, and 16 to 31 the negations of 0 to 15. Entries 0 to 31 say
-// that individual 0 holds each node, 32 that role 0 leads from it to individual 1, and 33 that the name is in top.
+// Nodes 0 to 7 have these kinds, 8 to 15 are T of each, 16 to 31 are the negations of 0 to 15. Entries 0 to 31 are
+// facts: individual 0 is in each node. Entry 32: role 0 leads from individual 0 to 1. Entry 33: the name is in top.
 fn book_of_all_kinds(rt: &impl Abort, heap: Global) -> Result<SlotTable, Fail> {
     let mut book: SlotTable = EditableBook::new(heap)?;
     for kind in KINDS {
@@ -50,7 +50,7 @@ fn book_of_all_kinds(rt: &impl Abort, heap: Global) -> Result<SlotTable, Fail> {
     Ok(book)
 }
 
-// A branch with the four forms on each node without T, and with holds and fails on each of the others.
+// The steps of a branch with all four forms on each node without T, and with holds and fails on the others.
 fn branch_of_all_forms(heap: Global) -> Result<Vec<u8>, AllocError> {
     let mut bytes = Vec::new(heap);
     for entry in 0..33 {
@@ -62,7 +62,7 @@ fn branch_of_all_forms(heap: Global) -> Result<Vec<u8>, AllocError> {
     for typical in 8..16 {
         add_step(&mut bytes, 8, typical, 0)?;
     }
-    // each split's first branch closes at once
+    // the first branch of each split closes at once
     for k in 0..8u16 {
         add_step(&mut bytes, 9, 40 + k, 0)?;
         add_step(&mut bytes, 12, k, 64 + k)?;
@@ -71,7 +71,7 @@ fn branch_of_all_forms(heap: Global) -> Result<Vec<u8>, AllocError> {
     Ok(bytes)
 }
 
-// The number of its steps, and of the constraints at individual 0. Two more stand at label 32.
+// The number of these steps, and of the constraints at individual 0. Two more are at label 32.
 const STEPS: usize = 74;
 
 const CONSTRAINTS: u16 = 72;
@@ -103,7 +103,8 @@ fn kind(node: u16) -> u8 {
     }
 }
 
-// Whether the op fits constraint a, with edge or constraint b. Edge 0 is by role 0, and edge 1 to a better element.
+// Whether a rule permits the op on constraint a with edge or constraint b. Edge 0 has role 0, edge 1 leads to a better
+// element.
 fn fits(op: u8, a: u16, b: u16) -> bool {
     let (form, node) = constraint(a);
     match (op, form, kind(node)) {
@@ -123,7 +124,7 @@ fn fits(op: u8, a: u16, b: u16) -> bool {
     }
 }
 
-// How many operands b the op is tried with.
+// The number of operands b to try with the op.
 fn operands(op: u8) -> u16 {
     match op {
         7 | 11 => 2,
@@ -157,7 +158,7 @@ fn an_op_fits_its_row_alone(rt: HostRuntime) -> Result<(), Fail> {
     Ok(())
 }
 
-// What a step names, and how it is written: ops 1 and 2 on each kind of entry, and constraints and edges of two labels.
+// Wrong operands and malformed steps: ops 1 and 2 on each kind of entry, constraints and edges of two labels.
 #[test]
 fn wrong_operands(rt: HostRuntime) -> Result<(), Fail> {
     let heap = rt.alloc();

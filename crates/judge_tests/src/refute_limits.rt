@@ -1,10 +1,9 @@
-// As many steps, labels and pending splits as there may be, and one more.
+// The most steps, labels and pending splits, and one more.
 use crate::refuted::{Room, add_step, book_of, judged};
 use logic::records::{RawEntry, RawNode};
 use std::test::Fail;
 
-// By number, as records are offered.
-// top, bottom, some role 0 top
+// Nodes: top, bottom, some role 0 top.
 const NODES: [RawNode; 3] = [
     RawNode {
         kind: 0,
@@ -23,7 +22,7 @@ const NODES: [RawNode; 3] = [
     },
 ];
 
-// top is in bottom, individual 0 holds bottom, individual 0 holds some role 0 top
+// Entries: top is in bottom; individual 0 is in bottom; individual 0 is in some role 0 top.
 const ENTRIES: [RawEntry; 3] = [
     RawEntry {
         kind: 1,
@@ -45,7 +44,7 @@ const ENTRIES: [RawEntry; 3] = [
     },
 ];
 
-// Bottom is put on the branch in every step but the last.
+// Every step but the last adds the fact bottom.
 #[test]
 fn step_8192_is_taken_and_8193_are_too_many(rt: HostRuntime) -> Result<(), Fail> {
     let heap = rt.alloc();
@@ -69,7 +68,7 @@ fn step_8192_is_taken_and_8193_are_too_many(rt: HostRuntime) -> Result<(), Fail>
     Ok(())
 }
 
-// Each step of op 6 makes a label, from 32 on.
+// Each step of op 6 makes a new label, from 32 on.
 #[test]
 fn label_255_is_granted_and_no_more(rt: HostRuntime) -> Result<(), Fail> {
     let heap = rt.alloc();
@@ -90,7 +89,7 @@ fn label_255_is_granted_and_no_more(rt: HostRuntime) -> Result<(), Fail> {
     Ok(())
 }
 
-// Splits within splits; then every branch closes at its first constraint.
+// Nested splits; then every branch closes at its first constraint.
 #[test]
 fn splits_as_deep_as_their_list(rt: HostRuntime) -> Result<(), Fail> {
     let heap = rt.alloc();

@@ -1,4 +1,4 @@
-// The rows of the sample book.
+// Tableaux over the sample book.
 use crate::refuted::{Room, book_of, judged};
 use books::book::EditableBook;
 use books::sample::{ENTRIES, NODES, QUESTION, REFUTATION, WRONG_STEPS};
@@ -42,7 +42,7 @@ fn wrong_hand_in(rt: HostRuntime) -> Result<(), Fail> {
     Ok(())
 }
 
-// Which entries are used, and that the lists are blank after a call that finds something in them.
+// The used entries; and that lists with old contents are blank after a call.
 #[test]
 fn the_set_and_the_lists(rt: HostRuntime) -> Result<(), Fail> {
     let heap = rt.alloc();
@@ -62,7 +62,7 @@ fn the_set_and_the_lists(rt: HostRuntime) -> Result<(), Fail> {
     }
     let used = answer.map_err(|_| Fail::new("refused"))?;
     assert_eq!(rt; used.count(), 4);
-    // by number, as the set is asked
+    // also past the last entry
     for i in 0..300u16 {
         assert_eq!(rt; used.has(i), i < 4);
     }

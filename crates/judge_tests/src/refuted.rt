@@ -1,4 +1,4 @@
-// What refute answered, in numbers that can be compared.
+// Calls of refute, with answers that can be compared.
 use books::book::{EditableBook, ReadableBook};
 use books::slot_table::SlotTable;
 use books::write::write_all;
@@ -12,10 +12,10 @@ use std::alloc::{AllocError, Global};
 use std::process::Abort;
 use std::test::Fail;
 
-// The number of entries used, or the number and the place of the refusal.
+// The number of entries used, or the refusal's number and place.
 pub(crate) type Answer = Result<u16, (u8, usize)>;
 
-// How long the three lists are.
+// The lengths of the three lists.
 #[derive(Clone, Copy)]
 pub struct Room {
     pub constraints: usize,
@@ -41,14 +41,14 @@ pub(crate) fn judged<B: ReadableBook>(
     )
 }
 
-// Writes a step behind others.
+// Appends a step.
 pub(crate) fn add_step(bytes: &mut Vec<u8>, op: u8, a: u16, b: u16) -> Result<(), AllocError> {
     let [a_low, a_high] = a.to_le_bytes();
     let [b_low, b_high] = b.to_le_bytes();
     bytes.extend_from_slice(&[op, a_low, a_high, b_low, b_high])
 }
 
-// A book of these records.
+// A book with these records.
 pub(crate) fn book_of(
     rt: &impl Abort,
     heap: Global,

@@ -1,4 +1,4 @@
-// Models against the sample book: verdicts, and what the list holds.
+// Models against the sample book: verdicts, and the list afterwards.
 use crate::marked::{empty_book, sample_book, shown};
 use books::book::EditableBook;
 use models::sample::model_bytes;
@@ -26,7 +26,7 @@ fn sample_model(rt: HostRuntime) -> Result<(), Fail> {
     Ok(())
 }
 
-// Entry 0 is false where neither element is better; struck, it is passed over.
+// Entry 0 is false if neither element is better; once struck, it is ignored.
 #[test]
 fn struck_entry(rt: HostRuntime) -> Result<(), Fail> {
     let mut book = sample_book(rt.alloc())?;
@@ -67,7 +67,7 @@ fn size_of_the_order(rt: HostRuntime) -> Result<(), Fail> {
     Ok(())
 }
 
-// 1 and 32 elements, and one less and one more.
+// 1 and 32 elements; 0 and 33.
 #[test]
 fn sizes(rt: HostRuntime) -> Result<(), Fail> {
     let book = empty_book(rt.alloc())?;

@@ -1,10 +1,10 @@
-// Interpretations with a field that is bad: its first byte is answered.
+// Interpretations with a field that is not valid: its first byte is reported.
 use crate::marked::{empty_book, shown};
 use books::slot_table::SlotTable;
 use orders::ranks::Ranks;
 use std::test::Fail;
 
-// Two elements, and one byte changed.
+// An interpretation of two elements with one byte changed.
 fn changed(book: &SlotTable, order: &Ranks, at: usize, byte: u8) -> Result<u8, (u8, usize)> {
     let mut bytes = [0; 2337];
     bytes[0] = 2;
@@ -24,7 +24,7 @@ fn lengths(rt: HostRuntime) -> Result<(), Fail> {
     Ok(())
 }
 
-// Element 2, of two, in each byte of each mask.
+// Each byte of each mask contains an element past the size.
 #[test]
 fn every_mask(rt: HostRuntime) -> Result<(), Fail> {
     let book = empty_book(rt.alloc())?;
@@ -37,7 +37,7 @@ fn every_mask(rt: HostRuntime) -> Result<(), Fail> {
     Ok(())
 }
 
-// A role that leads to element 0 from each element; only 0 and 1 are there.
+// A role that leads to element 0 from each of 32 elements; there are only two.
 #[test]
 fn every_role(rt: HostRuntime) -> Result<(), Fail> {
     let book = empty_book(rt.alloc())?;

@@ -1,16 +1,16 @@
-// What a call answered, in numbers that can be compared, and what an order is.
+// Fills, with answers that can be compared; and tests of what an order is.
 use logic::refusal::told;
 use orders::filled::{Encoding, Filled};
 use orders::masks::all_below;
 use orders::order::Order;
 use std::process::Abort;
 
-// A refusal by its number and its place.
+// Fills an order; a refusal by number and place.
 pub(crate) fn fill<E: Encoding>(order: &mut Filled<E>, bytes: &[u8]) -> Result<(), (u8, usize)> {
     order.fill(bytes).map_err(|fault| told(&fault))
 }
 
-// The order has one element. It is asked by number, here and below.
+// The order has one element, and none better.
 pub(crate) fn is_alone<O: Order>(rt: &impl Abort, order: &O) {
     assert_eq!(rt; order.size(), 1);
     for x in 0..=255u8 {
@@ -18,7 +18,7 @@ pub(crate) fn is_alone<O: Order>(rt: &impl Abort, order: &O) {
     }
 }
 
-// The order has 32 elements, and each is worse than all below it.
+// The order has 32 elements, and each is worse than all with a lower number.
 pub(crate) fn is_chain<O: Order>(rt: &impl Abort, order: &O) {
     assert_eq!(rt; order.size(), 32);
     for x in 0..32u8 {

@@ -3,7 +3,7 @@ use crate::answers::{fill, is_alone, is_chain, is_pair};
 use orders::order::Order;
 use orders::pairs::Pairs;
 
-// Row x has all elements below x.
+// Row x contains all elements below x.
 const CHAIN: &[u8; 128] = b"\
     \x00\x00\x00\x00\x01\x00\x00\x00\x03\x00\x00\x00\x07\x00\x00\x00\
     \x0f\x00\x00\x00\x1f\x00\x00\x00\x3f\x00\x00\x00\x7f\x00\x00\x00\
@@ -44,12 +44,12 @@ fn thirty_two_elements(rt: HostRuntime) {
     let mut order = Pairs::new();
     assert_eq!(rt; fill(&mut order, CHAIN), Ok(()));
     is_chain(&rt, &order);
-    // the last row names itself
+    // the last row contains its own element
     let mut bytes = *CHAIN;
     bytes[127] = 255;
     assert_eq!(rt; fill(&mut order, &bytes), Err((15, 31)));
     is_chain(&rt, &order);
-    // a smaller order leaves nothing of a larger one
+    // filling a smaller order leaves nothing of the larger one
     assert_eq!(rt; fill(&mut order, &[0; 4]), Ok(()));
     is_alone(&rt, &order);
 }
@@ -81,7 +81,7 @@ fn chains_of_three(rt: HostRuntime) {
         fill(&mut order, &[0, 0, 0, 0, 1, 0, 0, 0, 2, 0, 0, 0]),
         Err((15, 2))
     );
-    // a ring: every set lacks something, and the lowest is named
+    // a ring: no set is closed, and the lowest element is reported
     assert_eq!(rt;
         fill(&mut order, &[2, 0, 0, 0, 4, 0, 0, 0, 1, 0, 0, 0]),
         Err((15, 0))
@@ -91,10 +91,10 @@ fn chains_of_three(rt: HostRuntime) {
 #[test]
 fn unlawful_rows(rt: HostRuntime) {
     let mut order = Pairs::new();
-    // itself
+    // an element better than itself
     assert_eq!(rt; fill(&mut order, &[1, 0, 0, 0]), Err((15, 0)));
     assert_eq!(rt; fill(&mut order, &[0, 0, 0, 0, 2, 0, 0, 0]), Err((15, 1)));
-    // past the size
+    // an element past the size
     assert_eq!(rt; fill(&mut order, &[2, 0, 0, 0]), Err((15, 0)));
     assert_eq!(rt; fill(&mut order, &[0, 0, 0, 128]), Err((15, 0)));
     assert_eq!(rt; fill(&mut order, &[0, 0, 0, 0, 4, 0, 0, 0]), Err((15, 1)));

@@ -3,7 +3,7 @@ use crate::answers::{fill, is_alone, is_chain, is_pair};
 use orders::order::Order;
 use orders::ranks::Ranks;
 
-// The codes of these characters rise by one.
+// 32 ranks that rise by one.
 const CHAIN: &[u8; 32] = b"@ABCDEFGHIJKLMNOPQRSTUVWXYZ[\\]^_";
 
 #[test]

@@ -1,4 +1,4 @@
--- a book copied up to some place
+-- a book that is partly copied
 pub mod Copies
--- what judging again and again answers
+-- the outcomes of repeated judging
 pub mod Outcomes

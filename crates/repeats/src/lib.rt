@@ -1,4 +1,4 @@
-// A hand-in judged again and again, for measuring: against a book within its bytes, in a slot table or in a journal.
+// For measuring: judges a hand-in repeatedly, against a book in its sealed bytes, in a slot table or in a journal.
 #![tactic(auto)]
 
 mod copy;

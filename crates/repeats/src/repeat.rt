@@ -1,4 +1,4 @@
-// A hand-in judged again and again against one book.
+// Judges a hand-in repeatedly against one book.
 ghost use Rattle.std.specs.Prelude.{◌≡◌, MatchOption};
 ghost use Rattle.verdict.specs.Marks.{TableauAnswer, ModelAnswer};
 ghost use Rattle.repeats.specs.Outcomes.{InMemory, outcome_of, RefutedBy, SatisfiedBy, TableauOutcome, ModelOutcome};
@@ -17,22 +17,22 @@ use sealed::sealed_book::SealedBook;
 use std::alloc::Global;
 use verdict::mark_fault::MarkFault;
 
-// How many records each working list has.
+// The length of each working list.
 const RECORDS: usize = 4096;
 
-// What came of a hand-in, as it crosses to C.
+// The outcome of a hand-in, in C's layout.
 #[repr(C)]
 #[derive(Clone, Copy)]
 pub struct Outcome {
-    // 0 where there was no memory for the book, 1 accepted, 2 refused
+    // 0: no memory for the book; 1: accepted; 2: refused
     pub kind: u32,
-    // entries used, or elements; or the number of the refusal
+    // the number of entries used or of elements; or the refusal's number
     pub number: u32,
-    // the place of the refusal, otherwise 0
+    // the refusal's place; 0 if accepted
     pub place: usize,
 }
 
-// Judges a tableau so many times, and once more for the answer.
+// Judges a tableau `times` times, and once more for the answer.
 fn refuted<B: ReadableBook>(book: &B, steps: &[u8], times: u32) -> Result<u16, MarkFault>
     ensures { RefutedBy (B.meaning book.now) steps.now result }
 {
@@ -46,7 +46,7 @@ fn refuted<B: ReadableBook>(book: &B, steps: &[u8], times: u32) -> Result<u16, M
     Ok(used.count())
 }
 
-// The same of a model.
+// Judges a model `times` times, and once more for the answer.
 fn satisfied<B: ReadableBook, O: Order>(
     book: &B,
     model: &[u8],
@@ -89,12 +89,12 @@ const NO_MEMORY: Outcome = Outcome {
     place: 0,
 };
 
-// How a book is kept; any other number is as the first.
+// The ways to keep a book. Any other number: in its sealed bytes.
 const SLOT_TABLE: u8 = 1;
 
 const JOURNAL: u8 = 2;
 
-// What the marker answers to a tableau, or nothing where there is no memory.
+// The marker's answer to a tableau; `None` if memory runs out.
 fn tableau(
     heap: Global,
     kept: u8,
@@ -119,7 +119,7 @@ fn tableau(
     })
 }
 
-// What the marker answers to a model, or nothing where there is no memory.
+// The marker's answer to a model; `None` if memory runs out.
 fn model(
     heap: Global,
     kept: u8,
@@ -155,7 +155,7 @@ fn model(
     })
 }
 
-// Judges a tableau `times` times and once more, against the sealed book in a slot table, in a journal or as it is.
+// Judges a tableau `times` + 1 times, against the sealed book as `kept` says.
 #[unsafe(no_mangle)]
 pub extern "C" fn vuhlaten_repeat_tableau(
     heap: Global,
@@ -173,7 +173,7 @@ pub extern "C" fn vuhlaten_repeat_tableau(
     }
 }
 
-// The same of a model, with its "better" in pairs.
+// Judges a model, with its "better" in pairs, `times` + 1 times, against the sealed book as `kept` says.
 #[unsafe(no_mangle)]
 pub extern "C" fn vuhlaten_repeat_model(
     heap: Global,

@@ -1,5 +1,5 @@
-// The sample rows, run: each input, and what the calls answered. `rows_hold` of the crate `verdict` says of the same
-// inputs how every outcome is that keeps the promises.
+// Runs the sample rows: prints what the calls answer for each input. `rows_hold` of the crate `verdict` proves that the
+// contracts allow only these answers.
 #![tactic(auto)]
 
 use books::book::{EditableBook, ReadableBook};
@@ -26,7 +26,7 @@ fn print_refusal<F: Refusal>(rt: &impl Print, fault: &F) -> io::Result<()> {
     println!(rt; "refused {} at {}", fault.number(), fault.place())
 }
 
-// The order is filled from the bytes, and the sample model is shown with it.
+// Fills the order from the bytes, and shows the sample model with it.
 fn show_model<B: ReadableBook, E: Encoding>(
     rt: &impl Print,
     book: &B,
@@ -43,7 +43,7 @@ fn show_model<B: ReadableBook, E: Encoding>(
     }
 }
 
-// The tableau is worked in lists for so many constraints and splits; none of the rows has an edge.
+// Judges the tableau with lists of these lengths, and none for edges: no row has an edge.
 fn refute_book<B: ReadableBook>(
     rt: &HostRuntime,
     book: &B,
@@ -61,7 +61,7 @@ fn refute_book<B: ReadableBook>(
     Ok(())
 }
 
-// The length, and the last eight bytes in hex. A loop: each goes to the runtime's handle, which may refuse it.
+// Seals the book: prints the length, and the last eight bytes in hex. A loop, since each print can fail.
 fn seal_book<B: ReadableBook>(rt: &impl Print, book: &B) -> io::Result<()> {
     let mut out = [0; 64];
     match seal(book, &mut out) {
@@ -83,7 +83,7 @@ fn offer_node<B: EditableBook>(rt: &impl Print, book: &mut B, node: Node) -> io:
     }
 }
 
-// The sample book.
+// A new book with the sample records.
 fn sample_book<B: EditableBook>(heap: Global) -> Result<B, AllocError> {
     let mut book: B = EditableBook::new(heap)?;
     let _ = write_all(&mut book, &sample::NODES);
@@ -91,7 +91,7 @@ fn sample_book<B: EditableBook>(heap: Global) -> Result<B, AllocError> {
     Ok(book)
 }
 
-// The rows over the sample book, and over the same with the question.
+// Prints the eight rows. `asked` is the sample book with the question.
 fn run<B: EditableBook>(rt: &HostRuntime) -> anyhow::Result<()> {
     let mut book: B = sample_book(rt.alloc())?;
     let mut asked: B = sample_book(rt.alloc())?;

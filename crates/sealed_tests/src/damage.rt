@@ -1,4 +1,4 @@
-// Damaged bytes: every field in turn.
+// Damaged bytes: one field at a time.
 use crate::filled::sample_table;
 use books::book::ReadableBook;
 use logic::refusal::told;
@@ -8,7 +8,7 @@ use sealed::sealed_book::SealedBook;
 use std::process::Abort;
 use std::test::Fail;
 
-// The sample book behind a note of two bytes: nodes from 2, entries from 37, the trailer from 58.
+// The sample book after a note of two bytes: nodes from byte 2, entries from 37, the trailer from 58.
 fn sample_bytes(rt: &(impl Abort + AllocGlobal)) -> Result<[u8; 66], Fail> {
     let book = sample_table(rt)?;
     let mut out = [0; 66];
@@ -16,14 +16,14 @@ fn sample_bytes(rt: &(impl Abort + AllocGlobal)) -> Result<[u8; 66], Fail> {
     Ok(out)
 }
 
-// What check says of bytes that it refuses, as number and place.
+// The number and the place of check's refusal, if it refuses.
 fn refused(bytes: &[u8]) -> Option<(u8, usize)> {
     check_bytes(bytes).err().map(|fault| told(&fault))
 }
 
-// A byte to damage, what is written there, and what check says then.
+// The byte to damage, its new value, and check's refusal then.
 const DAMAGE: [(usize, u8, Option<(u8, usize)>); 24] = [
-    // the note is free
+    // the note may be anything
     (0, 255, None),
     // kinds of nodes
     (2, 9, Some((2, 2))),

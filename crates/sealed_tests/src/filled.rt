@@ -1,4 +1,4 @@
-// A slot table that has the sample book.
+// A slot table with the sample book.
 use books::book::EditableBook;
 use books::sample;
 use books::slot_table::SlotTable;

@@ -1,4 +1,4 @@
-// What is sealed passes and reads back, with a note or without.
+// Sealed books pass check and read back, with and without a note.
 use crate::filled::sample_table;
 use books::book::{EditableBook, ReadableBook};
 use books::slot_table::SlotTable;
@@ -12,7 +12,7 @@ use std::test::Fail;
 
 fn same_book<A: ReadableBook, B: ReadableBook>(rt: &impl Abort, a: &A, b: &B) {
     assert_eq!(rt; a.node_count(), b.node_count());
-    // by number, in both loops: a book is asked by number
+    // both loops by number, as a book is asked
     for i in 0..a.node_count() {
         assert!(rt;
             RawNode::from(a.node_at(i)) == RawNode::from(b.node_at(i)),
@@ -28,7 +28,7 @@ fn same_book<A: ReadableBook, B: ReadableBook>(rt: &impl Abort, a: &A, b: &B) {
     }
 }
 
-// Seals a book behind a note of `note` bytes, opens it, and compares.
+// Seals a book after a note of `note` bytes, opens it, and compares.
 fn reads_back<B: ReadableBook>(
     rt: &impl Abort,
     book: &B,
@@ -73,7 +73,6 @@ fn the_sample_book_has_64_bytes(rt: HostRuntime) -> Result<(), Fail> {
 #[test]
 fn the_largest_book_has_4360_bytes(rt: HostRuntime) -> Result<(), Fail> {
     let mut book: SlotTable = EditableBook::new(rt.alloc())?;
-    // by number, as records are offered
     for _ in 0..512u16 {
         assert!(rt;
             book.node(RawNode {

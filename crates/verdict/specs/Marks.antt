@@ -63,8 +63,8 @@ abbrev pub verdict_of : (ℕ → Verdict) → Result ℕ MarkFault → Verdict
 verdict_of granted (Ok n) = granted n
 verdict_of granted (Err f) = Refused (mark_fault_number f) (mark_fault_place f)
 
--- The verdict on a tableau, and what it means: closed exactly where the steps are the writing of a closed tableau
--- over the book that is sealed in the bytes. Then no finite preferential model, of any size, satisfies the book.
+-- The verdict on a tableau, and what it means: closed exactly when the steps are the writing of a closed tableau over the
+-- sealed book, within the limits, that fits lists of 4,096 records. Then no finite preferential model satisfies the book.
 pub record TableauMark (bs ss : List ℕ) (v : Verdict) : Type 0 where
   pub answer : Result ℕ MarkFault
   pub answered : TableauAnswer bs ss answer

@@ -1,9 +1,9 @@
-// Lines in buffers that held `#` everywhere.
+// Lines in buffers that are filled with `#` before.
 use logic::refusal::told;
 use verdict::Verdict;
 use verdict::line::line;
 
-// What line answers, a refusal as its number and place, and what it leaves of the buffer.
+// The answer of line (a refusal by number and place), and the buffer afterwards.
 fn written<const N: usize>(verdict: Verdict) -> (Result<usize, (u8, usize)>, [u8; N]) {
     let mut out = [b'#'; N];
     let answer = line(verdict, &mut out).map_err(|fault| told(&fault));

@@ -1,4 +1,4 @@
-// Marking: the sample hand-ins, which refusal comes first, how much of a file is the whole, how long the lists are.
+// Marking: the sample hand-ins, which refusal comes first, how many bytes count, how long the lists are.
 use books::book::EditableBook;
 use books::sample;
 use books::slot_table::SlotTable;
@@ -12,12 +12,12 @@ use verdict::Verdict;
 use verdict::line::line;
 use verdict::mark::{mark_model, mark_tableau};
 
-// Pairs 2, 0, and 2, 1, which are no order.
+// Pairs 2, 0; and pairs 2, 1, which are no order.
 const ONE_BETTER: [u8; 8] = [2, 0, 0, 0, 0, 0, 0, 0];
 
 const EACH_BETTER: [u8; 8] = [2, 0, 0, 0, 1, 0, 0, 0];
 
-// Seals the sample book, with more entries, at the front of a buffer. It has 64 bytes, and 7 for each entry more.
+// Seals the sample book with more entries into a buffer: 64 bytes, and 7 more for each entry.
 fn seal_sample(
     rt: &(impl Abort + AllocGlobal),
     more: &[RawEntry],
@@ -61,7 +61,7 @@ fn sample_hand_ins(rt: HostRuntime) -> Result<(), Fail> {
     Ok(())
 }
 
-// Check's before all, then that of the pairs, then the judge's.
+// The first refusal is check's, then that of the pairs, then the judge's.
 #[test]
 fn first_refusal(rt: HostRuntime) -> Result<(), Fail> {
     let mut book = [0; 64];
@@ -77,7 +77,7 @@ fn first_refusal(rt: HostRuntime) -> Result<(), Fail> {
     Ok(())
 }
 
-// The sample book with the question, behind a note of zeros and before two more bytes.
+// The sample book with the question, after a note of zeros and before two more bytes.
 fn noted(rt: &(impl Abort + AllocGlobal), note: usize) -> Result<Vec<u8>, Fail> {
     let mut sample = [0; 71];
     seal_sample(rt, &[sample::QUESTION], &mut sample)?;
@@ -87,7 +87,7 @@ fn noted(rt: &(impl Abort + AllocGlobal), note: usize) -> Result<Vec<u8>, Fail> 
     Ok(bytes)
 }
 
-// The trailer ends with byte 65,535, and then one byte further on.
+// The trailer ends at byte 65,535; then one byte later.
 #[test]
 fn first_65535_bytes(rt: HostRuntime) -> Result<(), Fail> {
     let book = noted(&rt, 65464)?;

@@ -1,4 +1,4 @@
-// A call of a book or of a docket, printed with what it was handed and what it answered.
+// Prints calls of a book or of a docket, with their arguments and answers.
 use logic::records::{RawEntry, RawNode};
 use logic::refusal::Refusal;
 use std::io;
@@ -7,7 +7,7 @@ pub(crate) fn print_refusal<F: Refusal>(rt: &impl Print, fault: &F) -> io::Resul
     println!(rt; "refused {} at {}", fault.number(), fault.place())
 }
 
-// Each call prints what it granted in words of its own.
+// One function a call, since each prints its answer in its own words.
 pub(crate) fn node<F: Refusal + Drop>(
     rt: &impl Print,
     raw: RawNode,

@@ -1,4 +1,4 @@
-// One task from start to finish, each step printed: what a call was handed and what it answered.
+// One task from start to finish. Each call is printed with its arguments and its answer.
 #![tactic(auto)]
 
 mod calls;
@@ -18,7 +18,7 @@ use docket::docket::Docket;
 use logic::records::Node;
 use refuting::Room;
 
-// The sample book is written, sealed and opened; then calls that do not fit are refused.
+// Writes the sample book, seals and opens it; then makes calls that are refused.
 fn write_a_book<B: EditableBook>(rt: &HostRuntime, book: &mut B) -> anyhow::Result<()> {
     println!(rt; "The sample book is written, call by call.")?;
     for raw in &sample::NODES {
@@ -32,7 +32,7 @@ fn write_a_book<B: EditableBook>(rt: &HostRuntime, book: &mut B) -> anyhow::Resu
     refuse_calls(rt, book)
 }
 
-// T of node 3, which is T(release) already; a strike, the same again, and one of no entry.
+// Refused calls: T of node 3, which is T(release); a second strike of an entry; a strike of an entry that is not there.
 fn refuse_calls<B: EditableBook>(rt: &HostRuntime, book: &mut B) -> anyhow::Result<()> {
     println!(rt; "T of T(release) is refused, and an entry is struck only once.")?;
     let typical = Node::Typical(3).into();
@@ -44,7 +44,7 @@ fn refuse_calls<B: EditableBook>(rt: &HostRuntime, book: &mut B) -> anyhow::Resu
     sealing::seal_and_open(rt, book)
 }
 
-// Hand-ins are judged against the sample book: models, a wrong tableau, and with one fact more a right one.
+// Judges hand-ins against the sample book: models and a wrong tableau; then, with the question added, a closed tableau.
 fn judge_hand_ins(rt: &HostRuntime) -> anyhow::Result<()> {
     let mut book: SlotTable = EditableBook::new(rt.alloc())?;
     let _ = write_all(&mut book, &sample::NODES);

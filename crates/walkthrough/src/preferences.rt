@@ -1,4 +1,4 @@
-// Orders that hand-ins bring: who is better than whom, and an order that is refused.
+// Fills orders from bytes: prints the better elements, and refusals.
 use crate::calls;
 use orders::filled::{Encoding, Filled};
 use orders::masks::contains;
@@ -7,8 +7,7 @@ use orders::pairs::Pairs;
 use orders::ranks::Ranks;
 use std::io;
 
-// The elements of an order, and each pair of which one is better. Loops: an order is asked
-// by number, and each line goes to the runtime's handle, which may refuse it.
+// Prints the size of an order and its pairs. Loops, since an order is asked by number and each print can fail.
 fn print_order<O: Order>(rt: &impl Print, order: &O) -> io::Result<()> {
     println!(rt; "granted, elements {}", order.size())?;
     for x in 0..order.size() {

@@ -1,4 +1,4 @@
-// A tableau is handed in: each step that is taken, and the verdict.
+// Judges a tableau: prints each step that is taken, and the verdict.
 use crate::calls;
 use books::book::ReadableBook;
 use judge::effect::Effect;
@@ -9,7 +9,7 @@ use judge::working::Split;
 use logic::tableau::{Constraint, Edge, Form, Step};
 use std::{fmt, io};
 
-// How long the lists of constraints, edges and pending splits are.
+// The lengths of the three working lists.
 #[derive(Clone, Copy)]
 pub(crate) struct Room {
     pub(crate) constraints: usize,
@@ -17,7 +17,7 @@ pub(crate) struct Room {
     pub(crate) splits: usize,
 }
 
-// A part of a tableau in words.
+// A part of a tableau, to be printed in words.
 #[derive(Clone, Copy)]
 struct Words<T>(T);
 
@@ -80,7 +80,7 @@ impl fmt::Display for Words<Effect> {
     }
 }
 
-// Prints each step, and keeps the first failure to print.
+// Prints each step, and keeps the first print error.
 #[derive(Drop)]
 struct Printer<'a, P> {
     rt: &'a P,
@@ -89,7 +89,7 @@ struct Printer<'a, P> {
 }
 
 impl<P: Print> Printer<'_, P> {
-    // A step, what it did, and how many splits are then pending, where it opened or closed one.
+    // Prints a step and its effect; and the number of pending splits, if the step changed it.
     fn print(&self, step: Step, effect: Effect, pending: usize) -> io::Result<()> {
         let Step { op, a, b } = step;
         print!(self.rt; "    step {op} {a} {b}: {}", Words(effect))?;
@@ -110,7 +110,7 @@ impl<P: Print> Watch for Printer<'_, P> {
     }
 }
 
-// Refutes the book by the steps, in lists that are so long.
+// Judges the steps against the book, with lists of these lengths.
 pub(crate) fn refute<B: ReadableBook>(
     rt: &HostRuntime,
     book: &B,

@@ -1,18 +1,18 @@
-// The rules of a book in readable form.
+// Prints the rules of a book in words.
 use books::book::ReadableBook;
 use logic::records::{Entry, Node, StoredEntry};
 use std::alloc::{AllocError, Global};
 use std::fmt;
 
-// The names of the sample book.
+// The concept names of the sample book.
 const NAMES: [&str; 3] = ["release", "yanked", "paired"];
 
-// The text of node i, where `texts` has those of the nodes so far.
+// The text of node i; `texts` holds the texts of the earlier nodes.
 fn text_of(texts: &[String], i: u16) -> &str {
     texts.get(i as usize).map_or("?", String::as_str)
 }
 
-// A node or an entry, by the texts of the nodes before it.
+// A node or an entry, to be printed with the texts of its operands.
 #[derive(Drop)]
 struct InWords<'a, T> {
     what: T,
@@ -34,7 +34,7 @@ impl fmt::Display for InWords<'_, Node> {
             Node::Or(c, d) => write!(f, "({} or {})", text(c), text(d)),
             Node::All(role, c) => write!(f, "all role {role} {}", text(c)),
             Node::Exists(role, c) => write!(f, "some role {role} {}", text(c)),
-            // in one pair of parentheses
+            // already in parentheses
             Node::Typical(c) if text(c).starts_with('(') => write!(f, "T{}", text(c)),
             Node::Typical(c) => write!(f, "T({})", text(c)),
             Node::Absent => write!(f, "absent"),
@@ -54,7 +54,7 @@ impl fmt::Display for InWords<'_, Entry> {
     }
 }
 
-// The text of each node, bottom up. A book is asked by number, here and below.
+// The text of each node, bottom up. (A book is asked by number.)
 fn concepts<B: ReadableBook>(heap: Global, book: &B) -> Result<Vec<String>, AllocError> {
     let mut texts = Vec::new(heap);
     for i in 0..book.node_count() {
@@ -68,7 +68,7 @@ fn concepts<B: ReadableBook>(heap: Global, book: &B) -> Result<Vec<String>, Allo
     Ok(texts)
 }
 
-// The rules. A loop: each line goes to the runtime's handle, which may refuse it.
+// Prints each entry on a line. A loop, since each print can fail.
 pub(crate) fn print<B: ReadableBook>(rt: &HostRuntime, book: &B) -> anyhow::Result<()> {
     let texts = concepts(rt.alloc(), book)?;
     println!(rt; "The book has {} nodes and these rules.", book.node_count())?;

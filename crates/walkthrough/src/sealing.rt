@@ -1,11 +1,11 @@
-// A book is sealed into bytes, and opened again.
+// Seals a book into bytes, and opens them again.
 use crate::{calls, rules};
 use books::book::ReadableBook;
 use sealed::seal::seal;
 use sealed::sealed_book::SealedBook;
 use std::io;
 
-// The last eight bytes, in hex. A loop: each goes to the runtime's handle, which may refuse it.
+// Prints the last eight bytes in hex. A loop, since each print can fail.
 fn print_trailer(rt: &impl Print, bytes: &[u8]) -> io::Result<()> {
     for byte in &bytes[bytes.len().saturating_sub(8)..] {
         print!(rt; " {byte:02x}")?;

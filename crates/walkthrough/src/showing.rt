@@ -1,4 +1,4 @@
-// The sample model is judged against the sample book, with an order that fits it and one that does not.
+// Judges the sample model against the sample book, with an order that satisfies the rules and one that does not.
 use crate::calls;
 use books::book::ReadableBook;
 use judge::show::show;
@@ -8,7 +8,7 @@ use orders::pairs::Pairs;
 use orders::ranks::Ranks;
 use std::io;
 
-// The verdict, and what the list holds then: the set of each node.
+// Prints the verdict, and the list afterwards: the set of each node, or zeros.
 fn hand_in<B: ReadableBook, O: Order>(
     rt: &impl Print,
     book: &B,

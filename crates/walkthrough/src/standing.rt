@@ -1,5 +1,5 @@
-// One docket from start to finish: the sample book is entered, shown, refuted and struck, and after each
-// call the standing is printed.
+// Drives a docket: enters the sample book, shows a model, refutes it with the question, strikes entries. Prints the
+// standing after each call.
 use crate::calls;
 use books::book::EditableBook;
 use books::sample;
@@ -11,7 +11,7 @@ use models::sample::model_bytes;
 use orders::pairs::Pairs;
 use std::io;
 
-// Individual 1 is a release, of which no rule speaks.
+// Another fact: individual 1 is a release.
 const ANOTHER: RawEntry = RawEntry {
     kind: 2,
     a: 1,

@@ -2,9 +2,9 @@
 """Gives the repository's own definitions and lemmas today's spelling: facts and types in upper camel case,
 all else in snake case, and a dash only where a lemma is named after two functions (length-concepts).
 
-usage: python3 tools/respell.py          at the top of the repository, once, after the kit's port.py
+usage: python3 docs/history/respell.py   at the top of the repository, once, after the kit's port.py
 
-It goes by tools/respell.names, a line 'OLD NEW' for each name, in the .rt and .antt files of crates/. Functions of src/,
+It goes by docs/history/respell.names, a line 'OLD NEW' for each name, in the .rt and .antt files of crates/. Functions of src/,
 strings and comments of src/ keep their words; comments of specs/ and proofs/ follow the definitions that they name.
 """
 

@@ -1,10 +1,10 @@
 #!/usr/bin/env python3
 """Lists the places of each point of the design pass in crates/*/src.
 
-    python3 tools/places.py POINT [FOLDER]
+    python3 docs/history/places.py POINT [FOLDER]
 
 A place is a line of the output; POINT is 1 to 8. The list is by text alone: what stands in it is read,
-and docs/DESIGN-PASS.md says of each line whether it is such a place, and what became of it.
+and docs/history/DESIGN-PASS.md says of each line whether it is such a place, and what became of it.
 """
 import glob
 import re
