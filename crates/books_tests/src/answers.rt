@@ -1,27 +1,34 @@
-// What a call answered, in numbers that can be compared.
+// Calls of books, the faults that they may answer, and new books.
 use books::book::EditableBook;
+use books::faults::{EnterFault, NodeFault, OfferFault, Reason, Unfit};
 use books::journal::Journal;
 use books::slot_table::SlotTable;
 use logic::records::{RawEntry, RawNode};
-use logic::refusal::told;
 use std::alloc::AllocError;
 
-// What was granted, or the number and the place of the refusal.
-pub(crate) type Answer = Result<u16, (u8, usize)>;
-
 // By number, as records are offered.
-pub(crate) fn node<B: EditableBook>(book: &mut B, kind: u8, a: u16, b: u16) -> Answer {
+pub(crate) fn node<B: EditableBook>(
+    book: &mut B,
+    kind: u8,
+    a: u16,
+    b: u16,
+) -> Result<u16, NodeFault> {
     book.node(RawNode { kind, a, b })
-        .map_err(|fault| told(&fault))
 }
 
-pub(crate) fn enter<B: EditableBook>(book: &mut B, kind: u8, a: u16, b: u16, c: u16) -> Answer {
+pub(crate) fn enter<B: EditableBook>(
+    book: &mut B,
+    kind: u8,
+    a: u16,
+    b: u16,
+    c: u16,
+) -> Result<u16, EnterFault> {
     book.enter(RawEntry { kind, a, b, c })
-        .map_err(|fault| told(&fault))
 }
 
-pub(crate) fn strike<B: EditableBook>(book: &mut B, i: u16) -> Answer {
-    book.strike(i).map(|()| i).map_err(|fault| told(&fault))
+// A record that does not fit a book, which has `count` of its sort.
+pub(crate) fn unfit<R>(why: Unfit, count: u16) -> OfferFault<R> {
+    OfferFault::new(Reason::Unfit(why), count)
 }
 
 // A new book of each kind.

@@ -1,14 +1,7 @@
-// What a call answered, in numbers that can be compared, and what an order is.
-use logic::refusal::told;
-use orders::filled::{Encoding, Filled};
+// What an order is.
 use orders::masks::all_below;
 use orders::order::Order;
 use std::process::Abort;
-
-// A refusal by its number and its place.
-pub(crate) fn fill<E: Encoding>(order: &mut Filled<E>, bytes: &[u8]) -> Result<(), (u8, usize)> {
-    order.fill(bytes).map_err(|fault| told(&fault))
-}
 
 // The order has one element. It is asked by number, here and below.
 pub(crate) fn is_alone<O: Order>(rt: &impl Abort, order: &O) {

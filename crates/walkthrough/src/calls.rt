@@ -1,10 +1,11 @@
 // A call of a book or of a docket, printed with what it was handed and what it answered.
 use logic::records::{RawEntry, RawNode};
-use logic::refusal::Refusal;
+use logic::refusal::{Refusal, Report};
 use std::io;
 
 pub(crate) fn print_refusal<F: Refusal>(rt: &impl Print, fault: &F) -> io::Result<()> {
-    println!(rt; "refused {} at {}", fault.number(), fault.place())
+    let Report { number, place } = fault.report();
+    println!(rt; "refused {number} at {place}")
 }
 
 // Each call prints what it granted in words of its own.
