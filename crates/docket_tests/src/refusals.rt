@@ -1,16 +1,15 @@
 // Every refusal is passed through with the call named, and moves nothing.
 use crate::answers::{enter, node, refute, show_sample, unfit, write_sample};
 use books::book::EditableBook;
-use books::faults::StrikeFault::NeverEntered;
 use books::faults::Unfit::{NoSuchNode, OutOfRange, TypicalMisplaced, UnknownKind};
 use books::faults::{OfferFault, Reason, StrikeFault};
 use books::slot_table::SlotTable;
 use docket::docket::Docket;
-use docket::fault::Fault;
+use docket::fault::Fault::{self, Enter, Node, Refute, Show, Strike};
 use docket::standing::Standing;
 use judge::faults::RefuteFault::{self, AtStep, NotClosed};
 use judge::show_faults::ShowFault::{EntryFails, Fill, OrderSize, View};
-use judge::step_fault::StepFault;
+use judge::step_fault::StepFault::{Full, Malformed, Misfit, NeverEntered};
 use logic::refusal::{BadLength, Refusal, Report};
 use models::faults::ViewFault;
 use models::sample::model_bytes;
@@ -32,39 +31,27 @@ fn shown(rt: &impl Abort, heap: Global) -> Result<Docket<SlotTable>, Fail> {
 #[test]
 fn of_the_book(rt: HostRuntime) -> Result<(), Fail> {
     let mut d = shown(&rt, rt.alloc())?;
-    assert_eq!(rt;
-        node(&mut d, 9, 0, 0),
-        Err(Fault::Node(unfit(UnknownKind, 7)))
-    );
-    assert_eq!(rt;
-        node(&mut d, 2, 64, 0),
-        Err(Fault::Node(unfit(OutOfRange, 7)))
-    );
-    assert_eq!(rt;
-        node(&mut d, 3, 7, 0),
-        Err(Fault::Node(unfit(NoSuchNode, 7)))
-    );
+    assert_eq!(rt; node(&mut d, 9, 0, 0), Err(Node(unfit(UnknownKind, 7))));
+    assert_eq!(rt; node(&mut d, 2, 64, 0), Err(Node(unfit(OutOfRange, 7))));
+    assert_eq!(rt; node(&mut d, 3, 7, 0), Err(Node(unfit(NoSuchNode, 7))));
     assert_eq!(rt;
         node(&mut d, 8, 3, 0),
-        Err(Fault::Node(unfit(TypicalMisplaced, 7)))
+        Err(Node(unfit(TypicalMisplaced, 7)))
     );
     assert_eq!(rt;
         enter(&mut d, 4, 0, 0, 0),
-        Err(Fault::Enter(unfit(UnknownKind, 3)))
+        Err(Enter(unfit(UnknownKind, 3)))
     );
     assert_eq!(rt;
         enter(&mut d, 2, 32, 0, 0),
-        Err(Fault::Enter(unfit(OutOfRange, 3)))
+        Err(Enter(unfit(OutOfRange, 3)))
     );
-    assert_eq!(rt;
-        enter(&mut d, 2, 0, 7, 0),
-        Err(Fault::Enter(unfit(NoSuchNode, 3)))
-    );
+    assert_eq!(rt; enter(&mut d, 2, 0, 7, 0), Err(Enter(unfit(NoSuchNode, 3))));
     assert_eq!(rt;
         enter(&mut d, 1, 2, 3, 0),
-        Err(Fault::Enter(unfit(TypicalMisplaced, 3)))
+        Err(Enter(unfit(TypicalMisplaced, 3)))
     );
-    assert_eq!(rt; d.strike(3), Err(Fault::Strike(NeverEntered(3))));
+    assert_eq!(rt; d.strike(3), Err(Strike(StrikeFault::NeverEntered(3))));
     assert_eq!(rt; d.standing(), Standing::Shown);
     Ok(())
 }
@@ -77,14 +64,14 @@ fn of_a_full_book(rt: HostRuntime) -> Result<(), Fail> {
     }
     assert_eq!(rt;
         node(&mut d, 0, 0, 0),
-        Err(Fault::Node(OfferFault::new(Reason::Full, 512)))
+        Err(Node(OfferFault::new(Reason::Full, 512)))
     );
     for i in 0..256 {
         assert_eq!(rt; enter(&mut d, 2, 0, 0, 0), Ok(i));
     }
     assert_eq!(rt;
         enter(&mut d, 2, 0, 0, 0),
-        Err(Fault::Enter(OfferFault::new(Reason::Full, 256)))
+        Err(Enter(OfferFault::new(Reason::Full, 256)))
     );
     Ok(())
 }
@@ -94,25 +81,25 @@ fn of_a_tableau(rt: HostRuntime) -> Result<(), Fail> {
     let mut d = shown(&rt, rt.alloc())?;
     assert_eq!(rt;
         refute(&mut d, &[1]),
-        Err(Fault::Refute(RefuteFault::BadLength(1)))
+        Err(Refute(RefuteFault::BadLength(1)))
     );
     assert_eq!(rt;
         refute(&mut d, &[14, 0, 0, 0, 0]),
-        Err(Fault::Refute(AtStep(0, StepFault::Malformed)))
+        Err(Refute(AtStep(0, Malformed)))
     );
     assert_eq!(rt;
         refute(&mut d, &[1, 3, 0, 0, 0]),
-        Err(Fault::Refute(AtStep(0, StepFault::NeverEntered)))
+        Err(Refute(AtStep(0, NeverEntered)))
     );
     assert_eq!(rt;
         refute(&mut d, &[1, 0, 0, 0, 0]),
-        Err(Fault::Refute(AtStep(0, StepFault::Misfit)))
+        Err(Refute(AtStep(0, Misfit)))
     );
     assert_eq!(rt;
         refute(&mut d, &[2, 0, 0, 0, 0, 2, 0, 0, 0, 0]),
-        Err(Fault::Refute(AtStep(1, StepFault::Full)))
+        Err(Refute(AtStep(1, Full)))
     );
-    assert_eq!(rt; refute(&mut d, &[]), Err(Fault::Refute(NotClosed(0))));
+    assert_eq!(rt; refute(&mut d, &[]), Err(Refute(NotClosed(0))));
     assert_eq!(rt; d.standing(), Standing::Shown);
     Ok(())
 }
@@ -124,28 +111,22 @@ fn of_a_model(rt: HostRuntime) -> Result<(), Fail> {
     let mut bytes = model_bytes();
     assert_eq!(rt;
         d.show(&[], &order, &mut []),
-        Err(Fault::Show(View(ViewFault::BadLength(0))))
+        Err(Show(View(ViewFault::BadLength(0))))
     );
     bytes[0] = 0;
     assert_eq!(rt;
         d.show(&bytes, &order, &mut []),
-        Err(Fault::Show(View(ViewFault::BadField(0))))
+        Err(Show(View(ViewFault::BadField(0))))
     );
-    assert_eq!(rt;
-        show_sample(&mut d, &[0; 4]),
-        Err(Fault::Show(OrderSize(1)))
-    );
-    assert_eq!(rt;
-        show_sample(&mut d, &[0; 8]),
-        Err(Fault::Show(EntryFails(0)))
-    );
+    assert_eq!(rt; show_sample(&mut d, &[0; 4]), Err(Show(OrderSize(1))));
+    assert_eq!(rt; show_sample(&mut d, &[0; 8]), Err(Show(EntryFails(0))));
     bytes[0] = 1;
     bytes[1] = 0;
     bytes[5] = 0;
     bytes[9] = 0;
     assert_eq!(rt;
         d.show(&bytes, &order, &mut [0; 6]),
-        Err(Fault::Show(Fill(BadLength(6))))
+        Err(Show(Fill(BadLength(6))))
     );
     assert_eq!(rt; d.standing(), Standing::Shown);
     Ok(())
@@ -166,15 +147,15 @@ fn reads(
 // Each fault's number, place and words.
 #[test]
 fn as_they_are_read(rt: HostRuntime) -> Result<(), Fail> {
-    let full = Fault::Node(OfferFault::new(Reason::Full, 512));
+    let full = Node(OfferFault::new(Reason::Full, 512));
     reads(&rt, full, 1, 512, "node 512: the book is full")?;
-    let bare = Fault::Enter(unfit(TypicalMisplaced, 3));
+    let bare = Enter(unfit(TypicalMisplaced, 3));
     reads(&rt, bare, 5, 3, "entry 3: T out of place")?;
-    let never = Fault::Strike(NeverEntered(9));
+    let never = Strike(StrikeFault::NeverEntered(9));
     reads(&rt, never, 6, 9, "entry 9 was never entered")?;
-    let again = Fault::Strike(StrikeFault::Struck(3));
+    let again = Strike(StrikeFault::Struck(3));
     reads(&rt, again, 6, 3, "entry 3 is struck already")?;
-    let step = Fault::Refute(AtStep(6, StepFault::Misfit));
+    let step = Refute(AtStep(6, Misfit));
     reads(
         &rt,
         step,
@@ -182,12 +163,12 @@ fn as_they_are_read(rt: HostRuntime) -> Result<(), Fail> {
         6,
         "tableau: step 6: no rule permits the step",
     )?;
-    let open = Fault::Refute(NotClosed(7));
+    let open = Refute(NotClosed(7));
     reads(&rt, open, 13, 7, "tableau: a branch is open after 7 steps")?;
-    let field = Fault::Show(View(ViewFault::BadField(257)));
+    let field = Show(View(ViewFault::BadField(257)));
     reads(&rt, field, 14, 257, "model: invalid field at byte 257")?;
-    let list = Fault::Show(Fill(BadLength(6)));
+    let list = Show(Fill(BadLength(6)));
     reads(&rt, list, 17, 6, "model: a list of length 6 is too short")?;
-    let fails = Fault::Show(EntryFails(0));
+    let fails = Show(EntryFails(0));
     reads(&rt, fails, 18, 0, "model: entry 0 is false")
 }
