@@ -1,5 +1,6 @@
 //! Counts what a run of hand-ins has reached: every rule, every refusal, every kind of verdict, every limit.
 
+use std::collections::BTreeSet;
 use std::fmt;
 
 use crate::hand_ins::prover::Room;
@@ -182,7 +183,8 @@ impl Coverage {
                     match why.number() {
                         8 if why == Why::UnknownOp => self.unknown_ops += 1,
                         number @ 8..=11 => self.ops[usize::from(step.op)][number as usize - 7] += 1,
-                        _ => {}
+                        12 => {}
+                        number => panic!("a step is refused with {number}: {step:?}"),
                     }
                     break;
                 }
@@ -270,11 +272,12 @@ impl fmt::Display for Coverage {
             writeln!(f, "{count:>20} with {} steps or more", 1 << bits)?;
         }
         writeln!(f, "{:>10} satisfied", self.satisfied)?;
-        for number in 1..=20 {
+        let numbers: BTreeSet<u32> = Why::ALL.iter().map(|why| why.number()).collect();
+        for number in numbers {
             let whys = Why::ALL.iter().filter(|why| why.number() == number);
             let told: Vec<String> = whys
                 .clone()
-                .filter(|why| !NEVER.contains(why))
+                .filter(|&&why| self.reasons[why as usize] > 0 || !NEVER.contains(&why))
                 .map(|&why| format!("{why:?} {}", self.reasons[why as usize]))
                 .collect();
             if !told.is_empty() {

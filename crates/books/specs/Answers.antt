@@ -61,7 +61,8 @@ abbrev pub CannotStrike : Book → ℕ → StrikeFault → Type 0
 CannotStrike bk i (NeverEntered p) = length bk.entries ≤ i
 CannotStrike bk i (Struck p) = (i < length bk.entries) × ((stored_at bk i).live ≡ false)
 
--- why an entry is not struck: number 6, and its own number
+-- Why an entry is not struck, the refusal's number, 6, and its place, the number of the entry. Both are written out, so
+-- that a wrong one in the definitions beside the fault is refused at the call.
 abbrev pub StrikeRefused : Book → ℕ → StrikeFault → Type 0
 StrikeRefused bk i f = CannotStrike bk i f × (strike_fault_number f ≡ 6) × (strike_fault_place f ≡ i)
 

@@ -3,28 +3,38 @@
 ghost use Rattle.std.specs.Prelude.{◌≡◌};
 ghost use Rattle.books.specs.Faults.{unfit_number, offer_fault_number, offer_fault_place, strike_fault_number, strike_fault_place};
 
+use crate::write::Offered;
 use logic::records::{RawEntry, RawNode};
-use logic::refusal::Refusal;
+use logic::refusal::{Refusal, Report};
 use std::marker::PhantomData;
+use thiserror::Error;
 
 // Why a record does not fit a book that has room for it.
-#[derive(Clone, Copy)]
+#[derive(Clone, Copy, Debug, PartialEq, Eq, Error)]
 pub enum Unfit {
+    #[error("unknown kind")]
     UnknownKind,
+    #[error("an operand over its limit, or unused and not 0")]
     OutOfRange,
+    #[error("a node operand that does not exist")]
     NoSuchNode,
+    #[error("T out of place")]
     TypicalMisplaced,
 }
 
 // Why an offered record is refused.
-#[derive(Clone, Copy)]
+#[derive(Clone, Copy, Debug, PartialEq, Eq, Error)]
 pub enum Reason {
+    #[error("the book is full")]
     Full,
+    #[error(transparent)]
     Unfit(Unfit),
 }
 
 // Why an offer of an R, a node or an entry, is refused, with the count of those in the book.
-#[derive(Clone, Copy)]
+#[derive(Clone, Copy, Debug, PartialEq, Eq, Error)]
+#[error_bound(R: Offered)]
+#[error("{} {count}: {reason}", R::NAME)]
 pub struct OfferFault<R> {
     pub reason: Reason,
     pub count: u16,
@@ -35,9 +45,11 @@ pub type NodeFault = OfferFault<RawNode>;
 
 pub type EnterFault = OfferFault<RawEntry>;
 
-#[derive(Clone, Copy)]
+#[derive(Clone, Copy, Debug, PartialEq, Eq, Error)]
 pub enum StrikeFault {
+    #[error("entry {0} was never entered")]
     NeverEntered(u16),
+    #[error("entry {0} is struck already")]
     Struck(u16),
 }
 
@@ -56,7 +68,7 @@ impl From<Unfit> for u8 {
 }
 
 impl<R> OfferFault<R> {
-    pub(crate) fn new(reason: Reason, count: u16) -> OfferFault<R>
+    pub fn new(reason: Reason, count: u16) -> OfferFault<R>
         ensures reason { result.reason ≡ reason }
         ensures count { result.count ≡ count }
     {
@@ -69,36 +81,31 @@ impl<R> OfferFault<R> {
 }
 
 impl<R> Refusal for OfferFault<R> {
-    ghost numbered = { offer_fault_number };
+    ghost number = { offer_fault_number };
 
-    ghost placed = { offer_fault_place };
+    ghost place = { offer_fault_place };
 
-    fn number(&self) -> u8 {
-        match self.reason {
-            Reason::Full => 1,
-            Reason::Unfit(unfit) => u8::from(unfit),
+    fn report(&self) -> Report {
+        Report {
+            number: match self.reason {
+                Reason::Full => 1,
+                Reason::Unfit(unfit) => u8::from(unfit),
+            },
+            place: self.count as usize,
         }
-    }
-
-    fn place(&self) -> usize {
-        self.count as usize
     }
 }
 
 impl Refusal for StrikeFault {
-    ghost numbered = { strike_fault_number };
+    ghost number = { strike_fault_number };
 
-    ghost placed = { strike_fault_place };
+    ghost place = { strike_fault_place };
 
-    fn number(&self) -> u8 {
-        match self {
-            StrikeFault::NeverEntered(_) | StrikeFault::Struck(_) => 6,
-        }
-    }
-
-    fn place(&self) -> usize {
-        match *self {
-            StrikeFault::NeverEntered(i) | StrikeFault::Struck(i) => i as usize,
+    fn report(&self) -> Report {
+        let (StrikeFault::NeverEntered(i) | StrikeFault::Struck(i)) = *self;
+        Report {
+            number: 6,
+            place: i as usize,
         }
     }
 }

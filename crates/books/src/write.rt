@@ -10,6 +10,9 @@ use logic::records::{RawEntry, RawNode};
 pub trait Offered: Copy {
     ghost offer: { Offer Self };
 
+    // What a message calls it.
+    const NAME: &'static str;
+
     // Offers the record.
     fn offer_to<B: EditableBook>(self, book: &mut B) -> Result<u16, OfferFault<Self>>
         ensures { OfferAnswer offer (B.ReadableBook.meaning book.old) (B.ReadableBook.meaning book.new) self result };
@@ -18,6 +21,8 @@ pub trait Offered: Copy {
 impl Offered for RawNode {
     ghost offer = { nodes };
 
+    const NAME: &'static str = "node";
+
     fn offer_to<B: EditableBook>(self, book: &mut B) -> Result<u16, NodeFault> {
         book.node(self)
     }
@@ -25,6 +30,8 @@ impl Offered for RawNode {
 
 impl Offered for RawEntry {
     ghost offer = { entries };
+
+    const NAME: &'static str = "entry";
 
     fn offer_to<B: EditableBook>(self, book: &mut B) -> Result<u16, EnterFault> {
         book.enter(self)

@@ -1,6 +1,9 @@
-// The limits on numbers and counts, and the answers past the end.
-use crate::answers::{both, enter, node, strike};
+// The limits on numbers and counts, and what stands past the end.
+use crate::answers::{both, enter, node, unfit};
 use books::book::{EditableBook, ReadableBook};
+use books::faults::StrikeFault::Struck;
+use books::faults::Unfit::{self, NoSuchNode, OutOfRange, UnknownKind};
+use books::faults::{OfferFault, Reason};
 use books::write::write_all;
 use logic::records::{RawEntry, RawNode};
 use std::process::Abort;
@@ -11,9 +14,15 @@ fn node_limit<B: EditableBook>(rt: &impl Abort, book: &mut B) {
         assert_eq!(rt; node(book, 0, 0, 0), Ok(i));
     }
     assert_eq!(rt; book.node_count(), 512);
-    assert_eq!(rt; node(book, 0, 0, 0), Err((1, 512)));
-    // the limit is tested before the kind
-    assert_eq!(rt; node(book, 9, 0, 0), Err((1, 512)));
+    assert_eq!(rt;
+        node(book, 0, 0, 0),
+        Err(OfferFault::new(Reason::Full, 512))
+    );
+    // the limit comes before an unknown kind
+    assert_eq!(rt;
+        node(book, 9, 0, 0),
+        Err(OfferFault::new(Reason::Full, 512))
+    );
     assert_eq!(rt; book.node_count(), 512);
 }
 
@@ -29,8 +38,14 @@ fn entry_limit<B: EditableBook>(rt: &impl Abort, book: &mut B) {
     for i in 0..256u16 {
         assert_eq!(rt; enter(book, 3, 0, 0, 0), Ok(i));
     }
-    assert_eq!(rt; enter(book, 3, 0, 0, 0), Err((1, 256)));
-    assert_eq!(rt; enter(book, 9, 0, 0, 0), Err((1, 256)));
+    assert_eq!(rt;
+        enter(book, 3, 0, 0, 0),
+        Err(OfferFault::new(Reason::Full, 256))
+    );
+    assert_eq!(rt;
+        enter(book, 9, 0, 0, 0),
+        Err(OfferFault::new(Reason::Full, 256))
+    );
     assert_eq!(rt; book.entry_count(), 256);
 }
 
@@ -42,30 +57,31 @@ fn entry_256_is_granted_and_257_refused(rt: HostRuntime) -> Result<(), Fail> {
     Ok(())
 }
 
-// Nodes (kind, a, b) that a book of one node refuses, with the refusal number.
-const BAD_NODES: [(u8, u16, u16, u8); 22] = [
-    (9, 0, 0, 2),
-    (255, 0, 0, 2),
-    (0, 1, 0, 3),
-    (0, 0, 1, 3),
-    (1, 1, 0, 3),
-    (1, 0, 1, 3),
-    (2, 64, 0, 3),
-    (2, 0, 1, 3),
-    (3, 0, 1, 3),
-    (6, 16, 0, 3),
-    (7, 16, 0, 3),
-    (8, 0, 1, 3),
-    (2, 65535, 0, 3),
-    (7, 65535, 0, 3),
-    (3, 1, 0, 4),
-    (4, 1, 0, 4),
-    (4, 0, 1, 4),
-    (5, 1, 0, 4),
-    (5, 0, 1, 4),
-    (6, 0, 1, 4),
-    (7, 0, 1, 4),
-    (8, 1, 0, 4),
+// By number, as records are offered.
+// Nodes that are refused by a book of one node, and why.
+const BAD_NODES: [(u8, u16, u16, Unfit); 22] = [
+    (9, 0, 0, UnknownKind),
+    (255, 0, 0, UnknownKind),
+    (0, 1, 0, OutOfRange),
+    (0, 0, 1, OutOfRange),
+    (1, 1, 0, OutOfRange),
+    (1, 0, 1, OutOfRange),
+    (2, 64, 0, OutOfRange),
+    (2, 0, 1, OutOfRange),
+    (3, 0, 1, OutOfRange),
+    (6, 16, 0, OutOfRange),
+    (7, 16, 0, OutOfRange),
+    (8, 0, 1, OutOfRange),
+    (2, 65535, 0, OutOfRange),
+    (7, 65535, 0, OutOfRange),
+    (3, 1, 0, NoSuchNode),
+    (4, 1, 0, NoSuchNode),
+    (4, 0, 1, NoSuchNode),
+    (5, 1, 0, NoSuchNode),
+    (5, 0, 1, NoSuchNode),
+    (6, 0, 1, NoSuchNode),
+    (7, 0, 1, NoSuchNode),
+    (8, 1, 0, NoSuchNode),
 ];
 
 // Nodes that a book grants in this order.
@@ -82,8 +98,8 @@ const GOOD_NODES: [(u8, u16, u16); 8] = [
 
 fn nodes_at_their_limits<B: EditableBook>(rt: &impl Abort, book: &mut B) {
     assert_eq!(rt; node(book, 2, 0, 0), Ok(0));
-    for (kind, a, b, number) in BAD_NODES {
-        assert_eq!(rt; node(book, kind, a, b), Err((number, 1)));
+    for (kind, a, b, why) in BAD_NODES {
+        assert_eq!(rt; node(book, kind, a, b), Err(unfit(why, 1)));
     }
     assert_eq!(rt; book.node_count(), 1);
     let raws = GOOD_NODES.map(|(kind, a, b)| RawNode { kind, a, b });
@@ -99,21 +115,21 @@ fn nodes_are_refused_past_their_limits(rt: HostRuntime) -> Result<(), Fail> {
     Ok(())
 }
 
-// Entries (kind, a, b, c) that a book of one node and one entry refuses, with the refusal number.
-const BAD_ENTRIES: [(u8, u16, u16, u16, u8); 13] = [
-    (0, 0, 0, 0, 2),
-    (4, 0, 0, 0, 2),
-    (17, 0, 0, 0, 2),
-    (255, 0, 0, 0, 2),
-    (1, 0, 0, 1, 3),
-    (2, 32, 0, 0, 3),
-    (2, 0, 0, 1, 3),
-    (3, 16, 0, 0, 3),
-    (3, 0, 32, 0, 3),
-    (3, 0, 0, 32, 3),
-    (1, 1, 0, 0, 4),
-    (1, 0, 1, 0, 4),
-    (2, 0, 1, 0, 4),
+// Entries that are refused by a book of one node and one entry, and why.
+const BAD_ENTRIES: [(u8, u16, u16, u16, Unfit); 13] = [
+    (0, 0, 0, 0, UnknownKind),
+    (4, 0, 0, 0, UnknownKind),
+    (17, 0, 0, 0, UnknownKind),
+    (255, 0, 0, 0, UnknownKind),
+    (1, 0, 0, 1, OutOfRange),
+    (2, 32, 0, 0, OutOfRange),
+    (2, 0, 0, 1, OutOfRange),
+    (3, 16, 0, 0, OutOfRange),
+    (3, 0, 32, 0, OutOfRange),
+    (3, 0, 0, 32, OutOfRange),
+    (1, 1, 0, 0, NoSuchNode),
+    (1, 0, 1, 0, NoSuchNode),
+    (2, 0, 1, 0, NoSuchNode),
 ];
 
 // Entries that this book grants.
@@ -122,8 +138,8 @@ const GOOD_ENTRIES: [(u8, u16, u16, u16); 3] = [(1, 0, 0, 0), (2, 31, 0, 0), (3,
 fn entries_at_their_limits<B: EditableBook>(rt: &impl Abort, book: &mut B) {
     assert_eq!(rt; node(book, 2, 0, 0), Ok(0));
     assert_eq!(rt; enter(book, 3, 0, 0, 0), Ok(0));
-    for (kind, a, b, c, number) in BAD_ENTRIES {
-        assert_eq!(rt; enter(book, kind, a, b, c), Err((number, 1)));
+    for (kind, a, b, c, why) in BAD_ENTRIES {
+        assert_eq!(rt; enter(book, kind, a, b, c), Err(unfit(why, 1)));
     }
     assert_eq!(rt; book.entry_count(), 1);
     let raws = GOOD_ENTRIES.map(|(kind, a, b, c)| RawEntry { kind, a, b, c });
@@ -144,9 +160,9 @@ fn filled<B: EditableBook>(rt: &impl Abort, book: &mut B) {
     node_limit(rt, book);
     entry_limit(rt, book);
     for i in 0..256u16 {
-        assert_eq!(rt; strike(book, i), Ok(i));
+        assert_eq!(rt; book.strike(i), Ok(()));
     }
-    assert_eq!(rt; strike(book, 0), Err((6, 0)));
+    assert_eq!(rt; book.strike(0), Err(Struck(0)));
     assert!(rt; !book.entry_at(255).live);
 }
 

@@ -1,6 +1,7 @@
-// A book's answers about its records: as offered, past the end, and after a strike.
-use crate::answers::{both, strike};
+// What a book answers of its records: as they were offered, past the end, and after a strike.
+use crate::answers::both;
 use books::book::{EditableBook, ReadableBook};
+use books::faults::StrikeFault::{NeverEntered, Struck};
 use books::sample;
 use books::write::write_all;
 use logic::records::{RawEntry, RawNode};
@@ -73,12 +74,12 @@ fn nothing_stands_past_the_end(rt: HostRuntime) -> Result<(), Fail> {
 }
 
 fn strikes<B: EditableBook>(rt: &impl Abort, book: &mut B) {
-    assert_eq!(rt; strike(book, 0), Err((6, 0)));
+    assert_eq!(rt; book.strike(0), Err(NeverEntered(0)));
     reads_back(rt, book);
-    assert_eq!(rt; strike(book, 1), Ok(1));
-    assert_eq!(rt; strike(book, 1), Err((6, 1)));
-    assert_eq!(rt; strike(book, 3), Err((6, 3)));
-    assert_eq!(rt; strike(book, 65535), Err((6, 65535)));
+    assert_eq!(rt; book.strike(1), Ok(()));
+    assert_eq!(rt; book.strike(1), Err(Struck(1)));
+    assert_eq!(rt; book.strike(3), Err(NeverEntered(3)));
+    assert_eq!(rt; book.strike(65535), Err(NeverEntered(65535)));
     assert!(rt; book.entry_at(0).live && !book.entry_at(1).live && book.entry_at(2).live);
     let struck = RawEntry {
         kind: 1,

@@ -1,6 +1,7 @@
 // Where T may stand.
-use crate::answers::{both, enter, node};
+use crate::answers::{both, enter, node, unfit};
 use books::book::EditableBook;
+use books::faults::Unfit::TypicalMisplaced;
 use books::write::write_all;
 use logic::records::RawNode;
 use std::process::Abort;
@@ -24,14 +25,14 @@ fn write_nodes<B: EditableBook>(rt: &impl Abort, book: &mut B) {
 fn below_all_some_and_typical<B: EditableBook>(rt: &impl Abort, book: &mut B) {
     write_nodes(rt, book);
     for c in 2..6 {
-        assert_eq!(rt; node(book, 6, 0, c), Err((5, 6)));
-        assert_eq!(rt; node(book, 7, 0, c), Err((5, 6)));
-        assert_eq!(rt; node(book, 8, c, 0), Err((5, 6)));
+        assert_eq!(rt; node(book, 6, 0, c), Err(unfit(TypicalMisplaced, 6)));
+        assert_eq!(rt; node(book, 7, 0, c), Err(unfit(TypicalMisplaced, 6)));
+        assert_eq!(rt; node(book, 8, c, 0), Err(unfit(TypicalMisplaced, 6)));
     }
     assert_eq!(rt; node(book, 6, 2, 0), Ok(6));
     assert_eq!(rt; node(book, 7, 3, 1), Ok(7));
     assert_eq!(rt; node(book, 8, 6, 0), Ok(8));
-    assert_eq!(rt; node(book, 8, 8, 0), Err((5, 9)));
+    assert_eq!(rt; node(book, 8, 8, 0), Err(unfit(TypicalMisplaced, 9)));
 }
 
 #[test]
@@ -47,11 +48,11 @@ fn in_entries<B: EditableBook>(rt: &impl Abort, book: &mut B) {
     assert_eq!(rt; enter(book, 1, 2, 0, 0), Ok(0));
     assert_eq!(rt; enter(book, 1, 0, 1, 0), Ok(1));
     for c in 3..6 {
-        assert_eq!(rt; enter(book, 1, c, 0, 0), Err((5, 2)));
+        assert_eq!(rt; enter(book, 1, c, 0, 0), Err(unfit(TypicalMisplaced, 2)));
     }
     for c in 2..6 {
-        assert_eq!(rt; enter(book, 1, 0, c, 0), Err((5, 2)));
-        assert_eq!(rt; enter(book, 1, 2, c, 0), Err((5, 2)));
+        assert_eq!(rt; enter(book, 1, 0, c, 0), Err(unfit(TypicalMisplaced, 2)));
+        assert_eq!(rt; enter(book, 1, 2, c, 0), Err(unfit(TypicalMisplaced, 2)));
     }
     for c in 0..6 {
         assert_eq!(rt; enter(book, 2, c, c, 0), Ok(2 + c));

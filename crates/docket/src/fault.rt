@@ -6,44 +6,36 @@ ghost use Rattle.docket.specs.declared.fault.Fault.TheVariants.{Node, Enter, Str
 use books::faults::{EnterFault, NodeFault, StrikeFault};
 use judge::faults::RefuteFault;
 use judge::show_faults::ShowFault;
-use logic::refusal::{Refusal, told};
+use logic::refusal::{Refusal, Report};
+use thiserror::Error;
 
-#[derive(Clone, Copy)]
+#[derive(Clone, Copy, Debug, PartialEq, Eq, Error)]
 pub enum Fault {
+    #[error(transparent)]
     Node(NodeFault),
+    #[error(transparent)]
     Enter(EnterFault),
+    #[error(transparent)]
     Strike(StrikeFault),
+    #[error("tableau: {0}")]
     Refute(RefuteFault),
+    #[error("model: {0}")]
     Show(ShowFault),
 }
 
-impl Fault {
-    // The number and the place of the lower fault.
-    fn told(&self) -> (u8, usize)
-        ensures number { result.0 ≡ fault_number self.now }
-        ensures place { result.1 ≡ fault_place self.now }
-    {
-        match self {
-            Fault::Node(fault) => told(fault),
-            Fault::Enter(fault) => told(fault),
-            Fault::Strike(fault) => told(fault),
-            Fault::Refute(fault) => told(fault),
-            Fault::Show(fault) => told(fault),
-        }
-    }
-}
-
 impl Refusal for Fault {
-    ghost numbered = { fault_number };
+    ghost number = { fault_number };
 
-    ghost placed = { fault_place };
+    ghost place = { fault_place };
 
-    fn number(&self) -> u8 {
-        self.told().0
-    }
-
-    fn place(&self) -> usize {
-        self.told().1
+    fn report(&self) -> Report {
+        match self {
+            Fault::Node(fault) => fault.report(),
+            Fault::Enter(fault) => fault.report(),
+            Fault::Strike(fault) => fault.report(),
+            Fault::Refute(fault) => fault.report(),
+            Fault::Show(fault) => fault.report(),
+        }
     }
 }
 

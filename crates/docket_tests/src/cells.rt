@@ -1,5 +1,5 @@
-// A run through every cell of the table that can occur.
-use crate::answers::{enter, refute, show_sample, strike, write_sample};
+// A run through every cell of the table that occurs.
+use crate::answers::{enter, refute, show_sample, write_sample};
 use books::book::EditableBook;
 use books::journal::Journal;
 use books::sample;
@@ -33,12 +33,12 @@ fn to_refuted<B: EditableBook>(rt: &impl Abort, docket: &mut Docket<B>) -> Resul
 fn to_open<B: EditableBook>(rt: &impl Abort, docket: &mut Docket<B>) -> Result<(), Fail> {
     assert_eq!(rt; enter(docket, 2, 1, 0, 0), Ok(4));
     assert_eq!(rt; docket.standing(), Standing::Refuted);
-    assert_eq!(rt; strike(docket, 4), Ok(()));
+    assert_eq!(rt; docket.strike(4), Ok(()));
     assert_eq!(rt; docket.standing(), Standing::Refuted);
-    assert_eq!(rt; strike(docket, 3), Ok(()));
+    assert_eq!(rt; docket.strike(3), Ok(()));
     assert_eq!(rt; docket.standing(), Standing::Open);
     assert_eq!(rt; enter(docket, 2, 1, 0, 0), Ok(5));
-    assert_eq!(rt; strike(docket, 5), Ok(()));
+    assert_eq!(rt; docket.strike(5), Ok(()));
     assert_eq!(rt; docket.standing(), Standing::Open);
     Ok(())
 }
@@ -47,13 +47,13 @@ fn to_open<B: EditableBook>(rt: &impl Abort, docket: &mut Docket<B>) -> Result<(
 fn to_shown_and_open<B: EditableBook>(rt: &impl Abort, docket: &mut Docket<B>) -> Result<(), Fail> {
     assert_eq!(rt; enter(docket, 2, 1, 0, 0), Ok(6));
     assert_eq!(rt; show_sample(docket, &PAIRS), Ok(2));
-    assert_eq!(rt; strike(docket, 6), Ok(()));
+    assert_eq!(rt; docket.strike(6), Ok(()));
     assert_eq!(rt; docket.standing(), Standing::Shown);
-    assert_eq!(rt; strike(docket, 0), Ok(()));
+    assert_eq!(rt; docket.strike(0), Ok(()));
     assert_eq!(rt; docket.standing(), Standing::Shown);
     assert_eq!(rt; enter(docket, 2, 1, 0, 0), Ok(7));
     assert_eq!(rt; docket.standing(), Standing::Open);
-    assert_eq!(rt; strike(docket, 1), Ok(()));
+    assert_eq!(rt; docket.strike(1), Ok(()));
     assert_eq!(rt; docket.standing(), Standing::Open);
     Ok(())
 }

@@ -1,10 +1,12 @@
-// After a second tableau, striking an entry that only the first used leaves the docket refuted.
-use crate::answers::{Call, enter, node, refute, strike};
+// A second tableau that no longer uses an entry: its strike then lifts nothing.
+use crate::answers::{enter, node, refute};
 use books::book::EditableBook;
 use books::journal::Journal;
 use books::slot_table::SlotTable;
 use docket::docket::Docket;
+use docket::fault::Fault;
 use docket::standing::Standing;
+use judge::faults::RefuteFault;
 use std::alloc::Global;
 use std::process::Abort;
 use std::test::Fail;
@@ -19,11 +21,11 @@ fn two_tableaux<B: EditableBook>(rt: &impl Abort, heap: Global) -> Result<(), Fa
     assert_eq!(rt; refute(&mut d, &[1, 1, 0, 0, 0, 13, 0, 0, 0, 0]), Ok(1));
     assert_eq!(rt;
         refute(&mut d, &[1, 0, 0, 0, 0, 13, 0, 0, 0, 0, 13, 0, 0, 0, 0]),
-        Err((Call::Refute, 12, 2))
+        Err(Fault::Refute(RefuteFault::AfterClosing(2)))
     );
-    assert_eq!(rt; strike(&mut d, 0), Ok(()));
+    assert_eq!(rt; d.strike(0), Ok(()));
     assert_eq!(rt; d.standing(), Standing::Refuted);
-    assert_eq!(rt; strike(&mut d, 1), Ok(()));
+    assert_eq!(rt; d.strike(1), Ok(()));
     assert_eq!(rt; d.standing(), Standing::Open);
     Ok(())
 }

@@ -23,7 +23,7 @@ fn mark(rt: &impl Print, hand_in: &HandIn, expected: &str, tally: &mut Tally) ->
     let line = str::from_utf8(&buffer[..length])?;
     let text = line.strip_suffix('\n').context("no line feed")?;
     let as_expected = text == expected;
-    tally.count(verdict, as_expected);
+    tally.count(verdict, as_expected)?;
     print!(rt; "  {}: {text}, ", hand_in.name)?;
     if as_expected {
         println!(rt; "as expected")?;

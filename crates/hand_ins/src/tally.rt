@@ -1,6 +1,10 @@
-// Counts of verdicts.
+// How many hand-ins came to what.
+use anyhow::{Context, Result};
 use std::io;
 use verdict::Verdict;
+
+// Refusals have the numbers below this one.
+const NUMBERS: usize = 21;
 
 #[derive(Clone, Copy, Default)]
 pub(crate) struct Tally {
@@ -8,12 +12,13 @@ pub(crate) struct Tally {
     others: u32,
     closed: u32,
     satisfied: u32,
-    // by refusal number
-    refused: [u32; 21],
+    // by the number of the refusal
+    refused: [u32; NUMBERS],
 }
 
 impl Tally {
-    pub(crate) fn count(&mut self, verdict: Verdict, as_expected: bool) {
+    // A refusal whose number is not of the table is an error.
+    pub(crate) fn count(&mut self, verdict: Verdict, as_expected: bool) -> Result<()> {
         let place = if as_expected {
             &mut self.as_expected
         } else {
@@ -24,11 +29,14 @@ impl Tally {
             Verdict::Closed(_) => self.closed = self.closed.saturating_add(1),
             Verdict::Satisfied(_) => self.satisfied = self.satisfied.saturating_add(1),
             Verdict::Refused { number, .. } => {
-                if let Some(n) = self.refused.get_mut(number as usize) {
-                    *n = n.saturating_add(1);
-                }
+                let n = self
+                    .refused
+                    .get_mut(number as usize)
+                    .context(format_args!("no refusal has the number {number}"))?;
+                *n = n.saturating_add(1);
             }
         }
+        Ok(())
     }
 
     pub(crate) fn all_as_expected(&self) -> bool {

@@ -52,7 +52,8 @@ FindsFirstFalse bk i list r = (o : Preference) (f : Compatible i o) → HasNodeS
 abbrev pub MeanModel : List ℕ → Preference → Type 0
 MeanModel bs o = HasModelLength bs × Compatible (interpretation_of bs) o
 
--- Each refusal: that no earlier one fits, its reason, its number and place, and what the list holds.
+-- Each refusal: that no earlier one fits, its reason, its number and place, and what the list holds. Numbers and places
+-- are written out, so that a wrong one in the definitions beside the fault is refused at the call.
 abbrev pub ShowRefused : Book → List ℕ → Preference → List ℕ → ShowFault → Type 0
 ShowRefused bk bs o list (View f) = ViewRefused bs f × Zeros list
 ShowRefused bk bs o list (OrderSize n) =

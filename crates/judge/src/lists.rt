@@ -3,6 +3,8 @@
 ghost use Rattle.std.specs.Prelude.{◌≡◌, ◌+◌, ◌++◌, length, take, drop, replicate, nat_le, nat_lt, slice_index_or, is_ok, if◌then◌else◌};
 ghost use Rattle.judge.specs.Lists.{Blanked};
 
+use thiserror::Error;
+
 // A record that has a blank: zero in each field. In place of Default, which gives generic code no fixed value.
 pub trait Blank: Copy {
     ghost zeroed: { Self };
@@ -12,7 +14,8 @@ pub trait Blank: Copy {
 }
 
 // A list has not the room for more records.
-#[derive(Clone, Copy)]
+#[derive(Clone, Copy, Debug, PartialEq, Eq, Error)]
+#[error("no room in a working list")]
 pub struct ListFull;
 
 // Record i of the `len` in use, or a blank past them.

@@ -2,6 +2,8 @@
 ghost use Rattle.std.specs.Prelude.{◌≡◌};
 ghost use Rattle.judge.specs.Ops.{OpOf, operand_of};
 
+use thiserror::Error;
+
 #[derive(Clone, Copy, PartialEq, Eq)]
 pub enum Op {
     // 1: a fact or a role fact of the book
@@ -42,7 +44,8 @@ pub enum Operand {
 }
 
 // A number that no op has.
-#[derive(Clone, Copy, PartialEq, Eq)]
+#[derive(Clone, Copy, Debug, PartialEq, Eq, Error)]
+#[error("no op has the number {0}")]
 pub struct UnknownOp(pub u8);
 
 // The op of a number.

@@ -4,48 +4,40 @@ ghost use Rattle.std.specs.Prelude.{◌≡◌};
 ghost use Rattle.judge.specs.ShowFaults.{show_fault_number, show_fault_place};
 ghost use Rattle.judge.specs.declared.show_faults.ShowFault.TheVariants.{View, Fill};
 
-use logic::refusal::{BadLength, Refusal, told};
+use logic::refusal::{BadLength, Refusal, Report};
 use models::faults::ViewFault;
+use thiserror::Error;
 
 // A list that has not a place for each node: 17, with its length.
 pub type FillFault = BadLength<17>;
 
-#[derive(Clone, Copy)]
+#[derive(Clone, Copy, Debug, PartialEq, Eq, Error)]
 pub enum ShowFault {
+    #[error(transparent)]
     View(ViewFault),
     // with the size of the order
+    #[error("the order has {0} elements, the interpretation another number")]
     OrderSize(u8),
+    #[error("a list of length {} is too short", .0.0)]
     Fill(FillFault),
     // with the lowest live entry that is false
+    #[error("entry {0} is false")]
     EntryFails(u16),
 }
 
-impl ShowFault {
-    // The number and the place; those of a lower fault are its own.
-    fn told(&self) -> (u8, usize)
-        ensures number { result.0 ≡ show_fault_number self.now }
-        ensures place { result.1 ≡ show_fault_place self.now }
-    {
-        match self {
-            ShowFault::View(fault) => told(fault),
-            ShowFault::OrderSize(size) => (16, *size as usize),
-            ShowFault::Fill(fault) => told(fault),
-            ShowFault::EntryFails(i) => (18, *i as usize),
-        }
-    }
-}
-
 impl Refusal for ShowFault {
-    ghost numbered = { show_fault_number };
+    ghost number = { show_fault_number };
 
-    ghost placed = { show_fault_place };
+    ghost place = { show_fault_place };
 
-    fn number(&self) -> u8 {
-        self.told().0
-    }
-
-    fn place(&self) -> usize {
-        self.told().1
+    fn report(&self) -> Report {
+        let (number, place) = match self {
+            ShowFault::View(fault) => return fault.report(),
+            ShowFault::OrderSize(size) => (16, *size as usize),
+            ShowFault::Fill(fault) => return fault.report(),
+            ShowFault::EntryFails(i) => (18, *i as usize),
+        };
+        Report { number, place }
     }
 }
 

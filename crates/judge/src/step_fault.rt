@@ -4,20 +4,22 @@ ghost use Rattle.judge.specs.declared.step_fault.StepFault.TheVariants.{Full};
 ghost use Rattle.judge.specs.Faults.{step_fault_number};
 
 use crate::lists::ListFull;
+use thiserror::Error;
 
-#[derive(Clone, Copy)]
+#[derive(Clone, Copy, Debug, PartialEq, Eq, Error)]
 pub enum StepFault {
-    // an unknown op, or an unused operand that is not 0
+    #[error("an unknown op, or an unused operand that is not 0")]
     Malformed,
-    // no entry has the number
+    #[error("no such entry")]
     NeverEntered,
-    // the branch has no such constraint, edge or label
+    #[error("no such constraint, edge or label")]
     NotThere,
-    // the entry is struck
+    #[error("the entry is struck")]
     Struck,
-    // the op does not fit
+    #[error("no rule permits the step")]
     Misfit,
     // a list would overflow, or a label is above 255
+    #[error("no room in a working list, or no label left")]
     Full,
 }
 

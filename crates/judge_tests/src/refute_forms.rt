@@ -2,6 +2,8 @@
 use crate::refuted::{Room, add_step, judged};
 use books::book::EditableBook;
 use books::slot_table::SlotTable;
+use judge::faults::RefuteFault::AtStep;
+use judge::step_fault::StepFault::{self, Malformed, Misfit, NeverEntered, NotThere};
 use logic::records::{RawEntry, RawNode};
 use std::alloc::{AllocError, Global};
 use std::process::Abort;
@@ -150,7 +152,7 @@ fn an_op_fits_its_row_alone(rt: HostRuntime) -> Result<(), Fail> {
             for b in 0..operands(op) {
                 add_step(&mut bytes, op, a, b)?;
                 let answer = judged(heap, &book, &bytes, ROOM)?;
-                assert_eq!(rt; answer == Err((10, STEPS)), !fits(op, a, b));
+                assert_eq!(rt; answer == Err(AtStep(STEPS, Misfit)), !fits(op, a, b));
                 bytes.truncate(5 * STEPS);
             }
         }
@@ -164,28 +166,28 @@ fn wrong_operands(rt: HostRuntime) -> Result<(), Fail> {
     let heap = rt.alloc();
     let book = book_of_all_kinds(&rt, heap)?;
     let mut bytes = branch_of_all_forms(heap)?;
-    let bad: [(u8, u16, u16, u8); 16] = [
-        (0, 0, 0, 8),
-        (14, 0, 0, 8),
-        (1, 0, 1, 8),
-        (13, 99, 1, 8),
-        (1, 34, 0, 9),
-        (2, 34, 0, 9),
-        (1, 300, 0, 9),
-        (2, 33, 33, 9),
-        (3, 74, 0, 9),
-        (7, 6, 2, 9),
-        (12, 0, 74, 9),
-        (1, 33, 0, 10),
-        (2, 0, 0, 10),
-        (2, 32, 0, 10),
-        (11, 73, 1, 10),
-        (12, 72, 32, 10),
+    let bad: [(u8, u16, u16, StepFault); 16] = [
+        (0, 0, 0, Malformed),
+        (14, 0, 0, Malformed),
+        (1, 0, 1, Malformed),
+        (13, 99, 1, Malformed),
+        (1, 34, 0, NeverEntered),
+        (2, 34, 0, NeverEntered),
+        (1, 300, 0, NeverEntered),
+        (2, 33, 33, NotThere),
+        (3, 74, 0, NotThere),
+        (7, 6, 2, NotThere),
+        (12, 0, 74, NotThere),
+        (1, 33, 0, Misfit),
+        (2, 0, 0, Misfit),
+        (2, 32, 0, Misfit),
+        (11, 73, 1, Misfit),
+        (12, 72, 32, Misfit),
     ];
-    for (op, a, b, number) in bad {
+    for (op, a, b, why) in bad {
         add_step(&mut bytes, op, a, b)?;
         let answer = judged(heap, &book, &bytes, ROOM)?;
-        assert_eq!(rt; answer, Err((number, STEPS)));
+        assert_eq!(rt; answer, Err(AtStep(STEPS, why)));
         bytes.truncate(5 * STEPS);
     }
     Ok(())

@@ -1,5 +1,7 @@
 // The most steps, labels and pending splits, and one more.
 use crate::refuted::{Room, add_step, book_of, judged};
+use judge::faults::RefuteFault::{AfterClosing, AtStep, BadLength, NotClosed};
+use judge::step_fault::StepFault::Full;
 use logic::records::{RawEntry, RawNode};
 use std::test::Fail;
 
@@ -55,16 +57,16 @@ fn step_8192_is_taken_and_8193_are_too_many(rt: HostRuntime) -> Result<(), Fail>
         splits: 0,
     };
     let mut bytes = Vec::new(heap);
-    assert_eq!(rt; judged(heap, &book, &bytes, room)?, Err((13, 0)));
+    assert_eq!(rt; judged(heap, &book, &bytes, room)?, Err(NotClosed(0)));
     for _ in 0..8191 {
         add_step(&mut bytes, 1, 1, 0)?;
     }
-    assert_eq!(rt; judged(heap, &book, &bytes, room)?, Err((13, 8191)));
+    assert_eq!(rt; judged(heap, &book, &bytes, room)?, Err(NotClosed(8191)));
     add_step(&mut bytes, 13, 8190, 0)?;
     assert_eq!(rt; judged(heap, &book, &bytes, room)?, Ok(1));
     add_step(&mut bytes, 13, 8190, 0)?;
-    assert_eq!(rt; judged(heap, &book, &bytes, room)?, Err((7, 40965)));
-    assert_eq!(rt; judged(heap, &book, b"1234", room)?, Err((7, 4)));
+    assert_eq!(rt; judged(heap, &book, &bytes, room)?, Err(BadLength(40965)));
+    assert_eq!(rt; judged(heap, &book, b"1234", room)?, Err(BadLength(4)));
     Ok(())
 }
 
@@ -83,9 +85,9 @@ fn label_255_is_granted_and_no_more(rt: HostRuntime) -> Result<(), Fail> {
     for _ in 32..256 {
         add_step(&mut bytes, 6, 0, 0)?;
     }
-    assert_eq!(rt; judged(heap, &book, &bytes, room)?, Err((13, 225)));
+    assert_eq!(rt; judged(heap, &book, &bytes, room)?, Err(NotClosed(225)));
     add_step(&mut bytes, 6, 0, 0)?;
-    assert_eq!(rt; judged(heap, &book, &bytes, room)?, Err((11, 225)));
+    assert_eq!(rt; judged(heap, &book, &bytes, room)?, Err(AtStep(225, Full)));
     Ok(())
 }
 
@@ -112,11 +114,14 @@ fn splits_as_deep_as_their_list(rt: HostRuntime) -> Result<(), Fail> {
             ..deep
         };
         assert_eq!(rt; judged(heap, &book, &bytes, deep)?, Ok(1));
-        assert_eq!(rt; judged(heap, &book, &bytes, shallow)?, Err((11, depth - 1)));
+        assert_eq!(rt;
+            judged(heap, &book, &bytes, shallow)?,
+            Err(AtStep(depth - 1, Full))
+        );
         add_step(&mut bytes, 13, 0, 0)?;
         assert_eq!(rt;
             judged(heap, &book, &bytes, deep)?,
-            Err((12, 2 * depth + 1))
+            Err(AfterClosing(2 * depth + 1))
         );
     }
     Ok(())

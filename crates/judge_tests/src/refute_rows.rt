@@ -2,8 +2,10 @@
 use crate::refuted::{Room, book_of, judged};
 use books::book::EditableBook;
 use books::sample::{ENTRIES, NODES, QUESTION, REFUTATION, WRONG_STEPS};
+use judge::faults::RefuteFault::AtStep;
 use judge::lists::Blank;
 use judge::refute::refute;
+use judge::step_fault::StepFault::{Full, Misfit, NeverEntered, Struck};
 use judge::working::Split;
 use logic::tableau::{Constraint, Form};
 use std::test::Fail;
@@ -22,11 +24,19 @@ fn four_entries_are_used(rt: HostRuntime) -> Result<(), Fail> {
     let mut book = book_of(&rt, heap, &NODES, &ENTRIES)?;
     assert!(rt; book.enter(QUESTION).is_ok());
     assert_eq!(rt; judged(heap, &book, &REFUTATION, room(5, 1))?, Ok(4));
-    assert_eq!(rt; judged(heap, &book, &REFUTATION, room(4, 1))?, Err((11, 6)));
-    assert_eq!(rt; judged(heap, &book, &REFUTATION, room(5, 0))?, Err((11, 2)));
-    // a struck entry, and one that was never entered
+    assert_eq!(rt;
+        judged(heap, &book, &REFUTATION, room(4, 1))?,
+        Err(AtStep(6, Full))
+    );
+    assert_eq!(rt;
+        judged(heap, &book, &REFUTATION, room(5, 0))?,
+        Err(AtStep(2, Full))
+    );
     assert!(rt; book.strike(3).is_ok());
-    assert_eq!(rt; judged(heap, &book, &REFUTATION, room(5, 1))?, Err((9, 1)));
+    assert_eq!(rt;
+        judged(heap, &book, &REFUTATION, room(5, 1))?,
+        Err(AtStep(1, Struck))
+    );
     Ok(())
 }
 
@@ -36,9 +46,12 @@ fn wrong_hand_in(rt: HostRuntime) -> Result<(), Fail> {
     let book = book_of(&rt, heap, &NODES, &ENTRIES)?;
     assert_eq!(rt;
         judged(heap, &book, &WRONG_STEPS, room(7, 2))?,
-        Err((10, 6))
+        Err(AtStep(6, Misfit))
     );
-    assert_eq!(rt; judged(heap, &book, &REFUTATION, room(5, 1))?, Err((9, 1)));
+    assert_eq!(rt;
+        judged(heap, &book, &REFUTATION, room(5, 1))?,
+        Err(AtStep(1, NeverEntered))
+    );
     Ok(())
 }
 

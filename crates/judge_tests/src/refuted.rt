@@ -2,18 +2,18 @@
 use books::book::{EditableBook, ReadableBook};
 use books::slot_table::SlotTable;
 use books::write::write_all;
+use judge::faults::RefuteFault;
 use judge::lists::Blank;
 use judge::refute::refute;
 use judge::working::Split;
 use logic::records::{RawEntry, RawNode};
-use logic::refusal::told;
 use logic::tableau::{Constraint, Edge};
 use std::alloc::{AllocError, Global};
 use std::process::Abort;
 use std::test::Fail;
 
-// The number of entries used, or the refusal's number and place.
-pub(crate) type Answer = Result<u16, (u8, usize)>;
+// The number of entries used, or the fault.
+pub(crate) type Answer = Result<u16, RefuteFault>;
 
 // The lengths of the three lists.
 #[derive(Clone, Copy)]
@@ -34,11 +34,7 @@ pub(crate) fn judged<B: ReadableBook>(
     let mut edges = vec![in heap; Edge::blank(); room.edges]?;
     let mut splits = vec![in heap; Split::blank(); room.splits]?;
     let answer = refute(book, bytes, &mut constraints, &mut edges, &mut splits);
-    Ok(
-        answer
-            .map(|used| used.count())
-            .map_err(|fault| told(&fault)),
-    )
+    Ok(answer.map(|used| used.count()))
 }
 
 // Appends a step.

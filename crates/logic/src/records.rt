@@ -44,7 +44,7 @@ pub const NO_STORED_ENTRY: StoredEntry = StoredEntry {
 
 // A node as it is written and offered: nothing is known of its numbers. The kind is one of them, since an
 // unknown kind is offered too, and refused.
-#[derive(Clone, Copy, PartialEq, Eq)]
+#[derive(Clone, Copy, Debug, PartialEq, Eq)]
 pub struct RawNode {
     pub kind: u8,
     pub a: u16,
@@ -52,7 +52,7 @@ pub struct RawNode {
 }
 
 // An entry as it is written and offered, with its kind as a number too.
-#[derive(Clone, Copy, PartialEq, Eq)]
+#[derive(Clone, Copy, Debug, PartialEq, Eq)]
 pub struct RawEntry {
     pub kind: u8,
     pub a: u16,

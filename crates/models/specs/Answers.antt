@@ -13,7 +13,8 @@ use Rattle.models.specs.Faults.{view_fault_number, view_fault_place}
 abbrev pub HasModelLength : List ℕ → Type 0
 HasModelLength bs = length bs ≡ 2337
 
--- 7 with the length, or 14 with the first byte of the lowest bad field
+-- 7 with the length, or 14 with the first byte of the lowest bad field; written out, so that a wrong number or place in the
+-- definitions beside the fault is refused at the call
 abbrev pub ViewRefused : List ℕ → ViewFault → Type 0
 ViewRefused bs (BadLength n) = (HasModelLength bs → ⊥) × (view_fault_number (BadLength n) ≡ 7) × (view_fault_place (BadLength n) ≡ length bs)
 ViewRefused bs (BadField k) = HasModelLength bs × (view_fault_number (BadField k) ≡ 14) × LowestBad (interpretation_of bs) (view_fault_place (BadField k))

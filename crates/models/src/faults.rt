@@ -1,32 +1,29 @@
 // Why bytes are no interpretation. Each case holds the place that is reported with it.
 ghost use Rattle.models.specs.Faults.{view_fault_number, view_fault_place};
 
-use logic::refusal::Refusal;
+use logic::refusal::{Refusal, Report};
+use thiserror::Error;
 
-#[derive(Clone, Copy)]
+#[derive(Clone, Copy, Debug, PartialEq, Eq, Error)]
 pub enum ViewFault {
     // with the length
+    #[error("wrong length {0}")]
     BadLength(usize),
     // with the first byte of the lowest bad field
+    #[error("invalid field at byte {0}")]
     BadField(usize),
 }
 
 impl Refusal for ViewFault {
-    ghost numbered = { view_fault_number };
+    ghost number = { view_fault_number };
 
-    ghost placed = { view_fault_place };
+    ghost place = { view_fault_place };
 
-    fn number(&self) -> u8 {
-        match self {
-            ViewFault::BadLength(_) => 7,
-            ViewFault::BadField(_) => 14,
-        }
-    }
-
-    fn place(&self) -> usize {
-        match *self {
-            ViewFault::BadLength(length) => length,
-            ViewFault::BadField(at) => at,
-        }
+    fn report(&self) -> Report {
+        let (number, place) = match *self {
+            ViewFault::BadLength(length) => (7, length),
+            ViewFault::BadField(at) => (14, at),
+        };
+        Report { number, place }
     }
 }

@@ -13,7 +13,8 @@ use Rattle.orders.specs.RankLaws.{RanksLawful}
 use Rattle.orders.specs.Faults.{pairs_fault_number, pairs_fault_place}
 
 -- 7 with the length where there are not four bytes for each of 1 to 32 elements, 15 with the lowest
--- element whose set is not lawful
+-- element whose set is not lawful; written out, so that a wrong number or place in the definitions beside the fault is
+-- refused at the call
 abbrev pub PairsRefused : List ℕ → PairsFault → Type 0
 PairsRefused bs (pairs.BadLength n) = (WholeRows bs → ⊥) × (pairs_fault_number (pairs.BadLength n) ≡ 7) × (pairs_fault_place (pairs.BadLength n) ≡ length bs)
 PairsRefused bs (pairs.Unlawful x) = WholeRows bs × (pairs_fault_number (pairs.Unlawful x) ≡ 15) × LowestUnlawful (order_of_pairs bs) (pairs_fault_place (pairs.Unlawful x))

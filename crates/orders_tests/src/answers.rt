@@ -1,16 +1,9 @@
-// Fills, with answers that can be compared; and tests of what an order is.
-use logic::refusal::told;
-use orders::filled::{Encoding, Filled};
+// What an order is.
 use orders::masks::all_below;
 use orders::order::Order;
 use std::process::Abort;
 
-// Fills an order; a refusal by number and place.
-pub(crate) fn fill<E: Encoding>(order: &mut Filled<E>, bytes: &[u8]) -> Result<(), (u8, usize)> {
-    order.fill(bytes).map_err(|fault| told(&fault))
-}
-
-// The order has one element, and none better.
+// The order has one element. It is asked by number, here and below.
 pub(crate) fn is_alone<O: Order>(rt: &impl Abort, order: &O) {
     assert_eq!(rt; order.size(), 1);
     for x in 0..=255u8 {

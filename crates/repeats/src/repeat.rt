@@ -10,7 +10,7 @@ use books::slot_table::SlotTable;
 use judge::lists::Blank;
 use judge::refute::refute;
 use judge::show::show;
-use logic::refusal::told;
+use logic::refusal::{Refusal, Report};
 use orders::order::Order;
 use orders::pairs::Pairs;
 use sealed::sealed_book::SealedBook;
@@ -75,7 +75,7 @@ fn accepted(number: u32) -> Outcome
 fn refused(fault: MarkFault) -> Outcome
     ensures { result ≡ outcome_of (Err fault) }
 {
-    let (number, place) = told(&fault);
+    let Report { number, place } = fault.report();
     Outcome {
         kind: 2,
         number: number as u32,

@@ -12,7 +12,7 @@ use judge::refute::refute;
 use judge::show::show;
 use judge::working::Split;
 use logic::records::Node;
-use logic::refusal::Refusal;
+use logic::refusal::{Refusal, Report};
 use logic::tableau::Constraint;
 use models::sample::model_bytes;
 use orders::filled::{Encoding, Filled};
@@ -23,7 +23,8 @@ use std::alloc::{AllocError, Global};
 use std::io;
 
 fn print_refusal<F: Refusal>(rt: &impl Print, fault: &F) -> io::Result<()> {
-    println!(rt; "refused {} at {}", fault.number(), fault.place())
+    let Report { number, place } = fault.report();
+    println!(rt; "refused {number} at {place}")
 }
 
 // Fills the order from the bytes, and shows the sample model with it.

@@ -2,13 +2,16 @@
 ghost use Rattle.sealed.specs.Faults.{check_fault_number, check_fault_place};
 
 use books::faults::Unfit;
-use logic::refusal::{BadLength, Refusal};
+use logic::refusal::{BadLength, Refusal, Report};
+use thiserror::Error;
 
-#[derive(Clone, Copy)]
+#[derive(Clone, Copy, Debug, PartialEq, Eq, Error)]
 pub enum CheckFault {
     // with the length of the bytes
+    #[error("no valid trailer in {0} bytes")]
     BadFrame(usize),
     // with the first byte of the first bad record
+    #[error("record at byte {1}: {0}")]
     BadRecord(Unfit, usize),
 }
 
@@ -16,21 +19,15 @@ pub enum CheckFault {
 pub type SealFault = BadLength<20>;
 
 impl Refusal for CheckFault {
-    ghost numbered = { check_fault_number };
+    ghost number = { check_fault_number };
 
-    ghost placed = { check_fault_place };
+    ghost place = { check_fault_place };
 
-    fn number(&self) -> u8 {
-        match *self {
-            CheckFault::BadFrame(_) => 19,
-            CheckFault::BadRecord(unfit, _) => u8::from(unfit),
-        }
-    }
-
-    fn place(&self) -> usize {
-        match *self {
-            CheckFault::BadFrame(length) => length,
-            CheckFault::BadRecord(_, at) => at,
-        }
+    fn report(&self) -> Report {
+        let (number, place) = match *self {
+            CheckFault::BadFrame(length) => (19, length),
+            CheckFault::BadRecord(unfit, at) => (u8::from(unfit), at),
+        };
+        Report { number, place }
     }
 }

@@ -1,8 +1,9 @@
 // Damaged bytes: one field at a time.
 use crate::filled::sample_table;
 use books::book::ReadableBook;
-use logic::refusal::told;
+use books::faults::Unfit::{NoSuchNode, OutOfRange, TypicalMisplaced, UnknownKind};
 use sealed::check::check as check_bytes;
+use sealed::faults::CheckFault::{self, BadFrame, BadRecord};
 use sealed::seal::seal;
 use sealed::sealed_book::SealedBook;
 use std::process::Abort;
@@ -16,60 +17,55 @@ fn sample_bytes(rt: &(impl Abort + AllocGlobal)) -> Result<[u8; 66], Fail> {
     Ok(out)
 }
 
-// The number and the place of check's refusal, if it refuses.
-fn refused(bytes: &[u8]) -> Option<(u8, usize)> {
-    check_bytes(bytes).err().map(|fault| told(&fault))
-}
-
-// The byte to damage, its new value, and check's refusal then.
-const DAMAGE: [(usize, u8, Option<(u8, usize)>); 24] = [
-    // the note may be anything
-    (0, 255, None),
+// A byte to damage, what is written there, and what check answers then.
+const DAMAGE: [(usize, u8, Result<(), CheckFault>); 24] = [
+    // the note is free
+    (0, 255, Ok(())),
     // kinds of nodes
-    (2, 9, Some((2, 2))),
-    (17, 255, Some((2, 17))),
+    (2, 9, Err(BadRecord(UnknownKind, 2))),
+    (17, 255, Err(BadRecord(UnknownKind, 17))),
     // a name over 63, an unused operand
-    (3, 64, Some((3, 2))),
-    (4, 1, Some((3, 2))),
-    (5, 1, Some((3, 2))),
-    (21, 1, Some((3, 17))),
+    (3, 64, Err(BadRecord(OutOfRange, 2))),
+    (4, 1, Err(BadRecord(OutOfRange, 2))),
+    (5, 1, Err(BadRecord(OutOfRange, 2))),
+    (21, 1, Err(BadRecord(OutOfRange, 17))),
     // an operand that is not there
-    (23, 4, Some((4, 22))),
-    (26, 2, Some((4, 22))),
-    (18, 3, Some((4, 17))),
+    (23, 4, Err(BadRecord(NoSuchNode, 22))),
+    (26, 2, Err(BadRecord(NoSuchNode, 22))),
+    (18, 3, Err(BadRecord(NoSuchNode, 17))),
     // T below T
-    (28, 3, Some((5, 27))),
+    (28, 3, Err(BadRecord(TypicalMisplaced, 27))),
     // kinds of entries, live and struck
-    (37, 0, Some((2, 37))),
-    (37, 4, Some((2, 37))),
-    (37, 16, Some((2, 37))),
-    (37, 33, Some((2, 37))),
-    (37, 17, None),
+    (37, 0, Err(BadRecord(UnknownKind, 37))),
+    (37, 4, Err(BadRecord(UnknownKind, 37))),
+    (37, 16, Err(BadRecord(UnknownKind, 37))),
+    (37, 33, Err(BadRecord(UnknownKind, 37))),
+    (37, 17, Ok(())),
     // an unused operand, an individual over 31
-    (42, 1, Some((3, 37))),
-    (52, 32, Some((3, 51))),
+    (42, 1, Err(BadRecord(OutOfRange, 37))),
+    (52, 32, Err(BadRecord(OutOfRange, 51))),
     // a node that is not there
-    (38, 7, Some((4, 37))),
+    (38, 7, Err(BadRecord(NoSuchNode, 37))),
     // T on the right
-    (40, 3, Some((5, 37))),
+    (40, 3, Err(BadRecord(TypicalMisplaced, 37))),
     // counts and distance
-    (58, 6, Some((19, 66))),
-    (59, 3, Some((19, 66))),
-    (60, 4, Some((19, 66))),
-    (62, 55, Some((19, 66))),
+    (58, 6, Err(BadFrame(66))),
+    (59, 3, Err(BadFrame(66))),
+    (60, 4, Err(BadFrame(66))),
+    (62, 55, Err(BadFrame(66))),
 ];
 
 #[test]
 fn every_field_damaged_in_turn(rt: HostRuntime) -> Result<(), Fail> {
     let bytes = sample_bytes(&rt)?;
-    assert_eq!(rt; refused(&bytes), None);
+    assert_eq!(rt; check_bytes(&bytes), Ok(()));
     for (at, value, answer) in &DAMAGE {
         let mut damaged = bytes;
         assert!(rt; *at < 66);
         damaged[*at] = *value;
-        assert_eq!(rt; refused(&damaged), *answer, "damaged");
+        assert_eq!(rt; check_bytes(&damaged), *answer, "damaged");
         let book = SealedBook::open(&damaged);
-        let nodes = if answer.is_none() { 7 } else { 0 };
+        let nodes = if answer.is_ok() { 7 } else { 0 };
         assert_eq!(rt; book.node_count(), nodes);
     }
     Ok(())
@@ -77,12 +73,12 @@ fn every_field_damaged_in_turn(rt: HostRuntime) -> Result<(), Fail> {
 
 #[test]
 fn short_bytes_are_refused(rt: HostRuntime) {
-    assert_eq!(rt; refused(&[]), Some((19, 0)));
-    assert_eq!(rt; refused(&[0; 7]), Some((19, 7)));
-    assert_eq!(rt; refused(&[0; 8]), None);
-    assert_eq!(rt; refused(&[1, 0, 0, 0, 5, 0, 0, 0]), Some((19, 8)));
-    assert_eq!(rt; refused(&[0, 0, 0, 0, 0, 0, 1, 0]), Some((19, 8)));
-    assert_eq!(rt; refused(&[0, 1, 0, 0, 0, 0, 0, 0, 0]), Some((19, 9)));
+    assert_eq!(rt; check_bytes(&[]), Err(BadFrame(0)));
+    assert_eq!(rt; check_bytes(&[0; 7]), Err(BadFrame(7)));
+    assert_eq!(rt; check_bytes(&[0; 8]), Ok(()));
+    assert_eq!(rt; check_bytes(&[1, 0, 0, 0, 5, 0, 0, 0]), Err(BadFrame(8)));
+    assert_eq!(rt; check_bytes(&[0, 0, 0, 0, 0, 0, 1, 0]), Err(BadFrame(8)));
+    assert_eq!(rt; check_bytes(&[0, 1, 0, 0, 0, 0, 0, 0, 0]), Err(BadFrame(9)));
 }
 
 #[test]
@@ -92,11 +88,11 @@ fn counts_over_the_limits_are_refused(rt: HostRuntime) {
     nodes[2566] = 2;
     nodes[2569] = 5;
     nodes[2570] = 10;
-    assert_eq!(rt; refused(&nodes), Some((19, 2573)));
+    assert_eq!(rt; check_bytes(&nodes), Err(BadFrame(2573)));
     let mut entries = [0; 1807];
     entries[1801] = 1;
     entries[1802] = 1;
     entries[1803] = 7;
     entries[1804] = 7;
-    assert_eq!(rt; refused(&entries), Some((19, 1807)));
+    assert_eq!(rt; check_bytes(&entries), Err(BadFrame(1807)));
 }

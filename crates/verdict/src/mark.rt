@@ -9,7 +9,7 @@ use crate::mark_fault::MarkFault;
 use judge::lists::Blank;
 use judge::refute::refute;
 use judge::show::show;
-use logic::refusal::told;
+use logic::refusal::{Refusal, Report};
 use orders::pairs::Pairs;
 use sealed::sealed_book::SealedBook;
 
@@ -54,7 +54,7 @@ fn refused(fault: MarkFault) -> Verdict
     requires { mark_fault_place fault < 2 ^ 32 }
     ensures { result ≡ verdict.Refused (mark_fault_number fault) (mark_fault_place fault) }
 {
-    let (number, place) = told(&fault);
+    let Report { number, place } = fault.report();
     Verdict::Refused {
         number: number as u32,
         place: place as u32,

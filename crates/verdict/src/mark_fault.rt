@@ -5,44 +5,35 @@ ghost use Rattle.verdict.specs.declared.mark_fault.MarkFault.TheVariants.{Check,
 
 use judge::faults::RefuteFault;
 use judge::show_faults::ShowFault;
-use logic::refusal::{Refusal, told};
+use logic::refusal::{Refusal, Report};
 use orders::faults::PairsFault;
 use sealed::faults::CheckFault;
+use thiserror::Error;
 
-#[derive(Clone, Copy)]
+#[derive(Clone, Copy, Debug, PartialEq, Eq, Error)]
 pub enum MarkFault {
+    #[error("book: {0}")]
     Check(CheckFault),
+    #[error("pairs: {0}")]
     Pairs(PairsFault),
+    #[error("tableau: {0}")]
     Refute(RefuteFault),
+    #[error("model: {0}")]
     Show(ShowFault),
 }
 
-impl MarkFault {
-    // The number and the place of the lower fault.
-    fn told(&self) -> (u8, usize)
-        ensures number { result.0 ≡ mark_fault_number self.now }
-        ensures place { result.1 ≡ mark_fault_place self.now }
-    {
-        match self {
-            MarkFault::Check(fault) => told(fault),
-            MarkFault::Pairs(fault) => told(fault),
-            MarkFault::Refute(fault) => told(fault),
-            MarkFault::Show(fault) => told(fault),
-        }
-    }
-}
-
 impl Refusal for MarkFault {
-    ghost numbered = { mark_fault_number };
+    ghost number = { mark_fault_number };
 
-    ghost placed = { mark_fault_place };
+    ghost place = { mark_fault_place };
 
-    fn number(&self) -> u8 {
-        self.told().0
-    }
-
-    fn place(&self) -> usize {
-        self.told().1
+    fn report(&self) -> Report {
+        match self {
+            MarkFault::Check(fault) => fault.report(),
+            MarkFault::Pairs(fault) => fault.report(),
+            MarkFault::Refute(fault) => fault.report(),
+            MarkFault::Show(fault) => fault.report(),
+        }
     }
 }
 

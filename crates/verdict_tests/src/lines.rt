@@ -1,12 +1,12 @@
-// Lines in buffers that are filled with `#` before.
-use logic::refusal::told;
+// Lines in buffers that held `#` everywhere.
+use logic::refusal::BadLength;
 use verdict::Verdict;
-use verdict::line::line;
+use verdict::line::{LineFault, line};
 
-// The answer of line (a refusal by number and place), and the buffer afterwards.
-fn written<const N: usize>(verdict: Verdict) -> (Result<usize, (u8, usize)>, [u8; N]) {
+// What line answers, and what it leaves of the buffer.
+fn written<const N: usize>(verdict: Verdict) -> (Result<usize, LineFault>, [u8; N]) {
     let mut out = [b'#'; N];
-    let answer = line(verdict, &mut out).map_err(|fault| told(&fault));
+    let answer = line(verdict, &mut out);
     (answer, out)
 }
 
@@ -60,8 +60,11 @@ fn zero_and_largest(rt: HostRuntime) {
 
 #[test]
 fn buffers(rt: HostRuntime) {
-    assert_eq!(rt; written(Verdict::Closed(4)), (Err((20, 32)), [b'#'; 32]));
-    assert_eq!(rt; written(Verdict::Closed(4)), (Err((20, 0)), []));
+    assert_eq!(rt;
+        written(Verdict::Closed(4)),
+        (Err(BadLength(32)), [b'#'; 32])
+    );
+    assert_eq!(rt; written(Verdict::Closed(4)), (Err(BadLength(0)), []));
     assert_eq!(rt;
         written(Verdict::Closed(4)),
         (Ok(23), *b"closed, entries used 4\n##########")

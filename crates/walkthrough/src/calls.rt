@@ -1,10 +1,11 @@
 // Prints calls of a book or of a docket, with their arguments and answers.
 use logic::records::{RawEntry, RawNode};
-use logic::refusal::Refusal;
+use logic::refusal::{Refusal, Report};
 use std::io;
 
 pub(crate) fn print_refusal<F: Refusal>(rt: &impl Print, fault: &F) -> io::Result<()> {
-    println!(rt; "refused {} at {}", fault.number(), fault.place())
+    let Report { number, place } = fault.report();
+    println!(rt; "refused {number} at {place}")
 }
 
 // One function a call, since each prints its answer in its own words.
