@@ -10,11 +10,12 @@ use Rattle.books.specs.declared.journal_record.Record.TheVariants as records
 use Rattle.books.specs.Marks.{nodes_of, marks_of_nodes}
 use Rattle.books.specs.Replay.{recorded, replay, recorded_nodes, struck_count}
 
-replay_on : (bk : Book) (rs : List Record) (r : Record) → replay bk (rs ++ r ∷ []) ≡ recorded (replay bk rs) r
+-- the book with one record more, from any book on
+pub replay_on : (bk : Book) (rs : List Record) (r : Record) → replay bk (rs ++ r ∷ []) ≡ recorded (replay bk rs) r
 replay_on bk [] r = refl
 replay_on bk (q ∷ rs) r = replay_on (recorded bk q) rs r
 
--- the book with one record more
+-- the same of an empty book, by an equation of records
 pub replay-push : (rs rs' : List Record) (r : Record) → rs' ≡ rs ++ r ∷ [] → replay empty rs' ≡ recorded (replay empty rs) r
 replay-push rs rs' r e = ap (replay empty) e ∙ replay_on empty rs r
 

@@ -1,5 +1,5 @@
--- What the calls of an editable book answer, and what the book holds after them. In each relation bk is
--- the book before the call and bk' the book after it.
+-- What the calls of an editable book answer, and what the book is after them. In each relation bk is the
+-- book before the call and bk' the book after it.
 -- Offer: what can be offered to a book. nodes, entries: the two things that can.
 -- IsPlainnessOf: what a book says of two of its nodes. Judged: what the tests of an offered record say.
 -- OfferAnswer, StrikeAnswer: what a call answers and does.
@@ -18,16 +18,16 @@ use Rattle.books.specs.declared.faults.StrikeFault.{StrikeFault}
 use Rattle.books.specs.declared.faults.StrikeFault.TheVariants.{NeverEntered, Struck}
 use Rattle.books.specs.Faults.{unfit_number, offer_fault_number, offer_fault_place, strike_fault_number, strike_fault_place}
 
--- of the concepts a and b of a list, whether they are plain
+-- the flags tell whether the concepts a and b of a list are plain
 abbrev pub IsPlainnessOf : List Concept → ℕ → ℕ → PlainOperands → Type 0
 IsPlainnessOf cs a b s = (plain (of cs a) ≡ s.plain_a) × (plain (of cs b) ≡ s.plain_b)
 
--- the first of four tests that fails
+-- which of four tests, in their order, is the first that fails
 abbrev pub FirstUnfit : Bool → Bool → Bool → Bool → Result (Unit {0}) Unfit → Type 0
 FirstUnfit known in_range there placed (Ok u) = first_unfit known in_range there placed ≡ 0
 FirstUnfit known in_range there placed (Err u) = first_unfit known in_range there placed ≡ unfit_number u
 
--- the record that is offered, or why it does not fit: `unfit` is 0 where it does, and x is what was offered
+-- granted: the offered record x, where `unfit` is 0; refused: `unfit` is the number of the reason
 abbrev pub Judged : {T : Type 0} → ℕ → T → Result T Unfit → Type 0
 Judged unfit x (Ok y) = (unfit ≡ 0) × (y ≡ x)
 Judged unfit x (Err u) = unfit ≡ unfit_number u

@@ -2,6 +2,8 @@
 pub mod Faults
 -- what the calls of an editable book answer
 pub mod Answers
+-- the tests of an offered record by flags alone
+pub mod Offers
 -- nodes with their marks
 pub mod Marks
 -- lists of records

@@ -1,4 +1,4 @@
--- Nodes with their marks, and what the tests of an offered record say to a book that keeps them.
+-- Nodes with their marks, which tell whether they are plain; and what a book with marks answers to an offer.
 -- nodes_of, marks_of_nodes: the nodes and the marks of a list of marked nodes. no_node: what stands past the end.
 -- HasRoom: whether there is room for one more.
 -- NodeOffered, EntryOffered: the record that is offered, or why it is refused.
@@ -28,11 +28,11 @@ nodes_of ms = map (λ m. m.node) ms
 abbrev pub marks_of_nodes : List MarkedNode → List Bool
 marks_of_nodes ms = map (λ m. m.plain) ms
 
--- past the end stands no node, and it is plain
+-- what stands past the end: no node, with the mark that it is plain
 abbrev pub no_node : MarkedNode
 no_node = record { node = Absent; plain = true }
 
--- there is room below the limit, or a book of this count is full
+-- below the limit there is room, and otherwise the book is full: refusal 1, with the count
 abbrev pub HasRoom : {R : Type 0} → ℕ → ℕ → Result (Unit {0}) (OfferFault R) → Type 0
 HasRoom count limit (Ok u) = count < limit
 HasRoom count limit (Err f) = (limit ≤ count) × (offer_fault_number f ≡ 1) × (offer_fault_place f ≡ count)

@@ -6,7 +6,7 @@ use Rattle.logic.specs.Books.{Book}
 use Rattle.books.specs.declared.faults.OfferFault.{OfferFault}
 use Rattle.books.specs.Answers.{Offer, OfferRefused}
 
--- each record of the list is granted in its turn, and bk' is the book with all of them
+-- each record of the list is granted in its turn, and bk' is the book with all of them appended
 abbrev pub ListGranted : {R : Type 0} → Offer R → Book → List R → Book → Type 0
 ListGranted o bk [] bk' = bk' ≡ bk
 ListGranted o bk (x ∷ xs) bk' = (o.refusal bk x ≡ 0) × ListGranted o (o.more bk x) xs bk'

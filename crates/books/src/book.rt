@@ -1,5 +1,5 @@
-// What a book is, to its readers and to those who write in it.
-ghost use Rattle.std.specs.Prelude.{◌≡◌, length, is_ok, IfOk, Decides};
+// Books to read and books to edit.
+ghost use Rattle.std.specs.Prelude.{◌≡◌, ◌↔◌, length, IfOk, IsOk};
 ghost use Rattle.logic.specs.Books.{Book, empty, node_at, stored_at};
 ghost use Rattle.logic.specs.Lawful.{Lawful};
 ghost use Rattle.logic.specs.Refusals.{NodeFits, EntryFits};
@@ -9,8 +9,8 @@ use crate::faults::{EnterFault, NodeFault, StrikeFault};
 use logic::records::{Node, RawEntry, RawNode, StoredEntry};
 use std::alloc::{AllocError, Global};
 
-// A book to read. It means a list of nodes and a list of entries with live marks, both lawful. A
-// question alters nothing and is answered from the meaning alone.
+// A book to read. Its meaning is a lawful book: a list of nodes and a list of entries with live marks. A
+// question changes nothing, and its answer depends on the meaning alone.
 pub trait ReadableBook {
     ghost meaning: { Self → Book };
 
@@ -32,22 +32,21 @@ pub trait ReadableBook {
         ensures { result ≡ stored_at (meaning self.now) i };
 }
 
-// A book that also takes nodes, entries and strikes. A call each for nodes and entries is asked for, and they
-// keep other records and another count; `write::Offered` is one call for both.
+// A book that also takes nodes, entries and strikes. `write::Offered` is one call for nodes and for entries.
 pub trait EditableBook: ReadableBook + Sized + Drop {
     // An empty book. Only this call can fail for want of memory.
     fn new(heap: Global) -> Result<Self, AllocError>
         ensures { IfOk result (λ b. Self.ReadableBook.meaning b ≡ empty) };
 
-    // Appends a node and answers its number; granted exactly when the book stays lawful.
+    // Appends a node and returns its number; granted exactly when the book stays lawful.
     fn node(&mut self, raw: RawNode) -> Result<u16, NodeFault>
         ensures answer { OfferAnswer nodes (Self.ReadableBook.meaning self.old) (Self.ReadableBook.meaning self.new) raw result }
-        ensures exact { Decides (is_ok result) (NodeFits (Self.ReadableBook.meaning self.old) raw) };
+        ensures exact { IsOk result ↔ NodeFits (Self.ReadableBook.meaning self.old) raw };
 
-    // Appends an entry, live, and answers its number; granted exactly when the book stays lawful.
+    // Appends an entry, live, and returns its number; granted exactly when the book stays lawful.
     fn enter(&mut self, raw: RawEntry) -> Result<u16, EnterFault>
         ensures answer { OfferAnswer entries (Self.ReadableBook.meaning self.old) (Self.ReadableBook.meaning self.new) raw result }
-        ensures exact { Decides (is_ok result) (EntryFits (Self.ReadableBook.meaning self.old) raw) };
+        ensures exact { IsOk result ↔ EntryFits (Self.ReadableBook.meaning self.old) raw };
 
     // Clears the live mark of entry i.
     fn strike(&mut self, i: u16) -> Result<(), StrikeFault>

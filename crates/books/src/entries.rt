@@ -4,7 +4,7 @@ ghost use Rattle.logic.specs.Books.{no_stored_entry, struck};
 
 use logic::records::{Entry, StoredEntry};
 
-// An entry that was just taken.
+// A new entry, which is live.
 pub(crate) fn taken(entry: Entry) -> StoredEntry
     ensures { result ≡ record { entry = entry; live = true } }
 {

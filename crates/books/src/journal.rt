@@ -1,25 +1,26 @@
 // An editable book that only appends: a record of each node, each entry and each strike.
-ghost use Rattle.std.specs.Prelude.{◌≡◌, ◌+◌, ◌<◌, ◌≤◌, length, if◌then◌else◌, vec_len, vec_capacity, nat_eq, slice_index_or};
+ghost use Rattle.std.specs.Prelude.{◌≡◌, ◌+◌, ◌<◌, ◌≤◌, [], ◌∷◌, ◌++◌, length, if◌then◌else◌, vec_len, vec_capacity, nat_eq, slice_index_or};
 ghost use Rattle.logic.specs.Concepts.{plain_marks};
 ghost use Rattle.logic.specs.Books.{Book, empty, stored_at, struck};
 ghost use Rattle.logic.specs.Lawful.{Lawful};
 ghost use Rattle.logic.proofs.Deciding.{lawful_known};
 ghost use Rattle.books.specs.Marks.{marks_of_nodes, no_node};
-ghost use Rattle.books.specs.Replay.{recorded, replay, recorded_nodes, struck_count};
+ghost use Rattle.books.specs.Replay.{recorded, replay, recorded_nodes, struck_count, Consistent};
 
 use crate::book::{EditableBook, ReadableBook};
 use crate::entries::taken;
 use crate::faults::{EnterFault, NodeFault, StrikeFault};
 use crate::journal_record::Record;
 use crate::marked::{MarkedBook, MarkedNode, NO_NODE, may_strike, offered_entry, offered_node};
+use logic::limits::{ENTRIES, NODES};
 use logic::records::{NO_STORED_ENTRY, Node, RawEntry, RawNode, StoredEntry};
 use std::alloc::{AllocError, Global};
 
-const RECORDS: usize = 1024;
+// A record for each node, one for each entry, and one for each entry that is struck.
+const RECORDS: usize = NODES as usize + 2 * ENTRIES as usize;
 
-// Two counts stand beside the records, so that asking for them needs no scan. The memory of all records is
-// reserved when the journal is made. It suffices: there is one record for
-// each node, one for each entry and one for each entry that is struck.
+// The counts of nodes and entries stand beside the records, so that asking for them needs no scan. The memory of
+// all records is reserved when the journal is made.
 #[derive(Drop)]
 pub struct Journal {
     records: Vec<Record>,
@@ -35,7 +36,19 @@ pub struct Journal {
     ghost lawful: { ∥ Lawful (replay empty records.items) ∥₁ },
 }
 
-// Node i of the records with its mark; past the end Absent, which is plain.
+impl Journal {
+    // Appends a record and sets both counts.
+    fn append(&mut self, record: Record, nodes: u16, entries: u16)
+        requires { Consistent (self.old.records.items ++ «record» ∷ []) (vec_len self.old.records + 1) nodes entries }
+        ensures { self.new.records.items ≡ self.old.records.items ++ «record» ∷ [] }
+    {
+        self.records.push_reserved(record);
+        self.nodes = nodes;
+        self.entries = entries;
+    }
+}
+
+// Node i of the records with its mark; `Absent` past the end, which is plain.
 fn node_record(records: &[Record], i: u16) -> MarkedNode
     ensures { result ≡ slice_index_or (recorded_nodes records.now) i no_node }
 {
@@ -56,10 +69,11 @@ fn after_strike(stored: StoredEntry, j: u16, i: u16) -> StoredEntry
     }
 }
 
-// Entry i and the count of entries, after one record more.
+// Entry i and the count of entries, after one more record.
 fn after_record(stored: StoredEntry, seen: u16, record: Record, i: u16) -> (StoredEntry, u16)
     requires { seen < 1024 }
-    ensures reads { (bk : Book) → stored ≡ stored_at bk i → seen ≡ length bk.entries → (result.0 ≡ stored_at (recorded bk «record») i) × (result.1 ≡ length (recorded bk «record»).entries) }
+    ensures reads { (bk : Book) → stored ≡ stored_at bk i → seen ≡ length bk.entries
+        → (result.0 ≡ stored_at (recorded bk «record») i) × (result.1 ≡ length (recorded bk «record»).entries) }
     ensures few { result.1 ≤ seen + 1 }
 {
     match record {
@@ -77,7 +91,7 @@ fn stored_at(records: &[Record], i: u16) -> StoredEntry
     requires { length records.now ≤ 1024 }
     ensures { result ≡ stored_at (replay empty records.now) i }
 {
-    // a loop, since a fold's closure would not know that `seen` stays small
+    // a loop, whose invariant says that `seen` stays small
     let mut stored = NO_STORED_ENTRY;
     let mut seen = 0;
     for record in records {
@@ -127,22 +141,20 @@ impl EditableBook for Journal {
     fn node(&mut self, raw: RawNode) -> Result<u16, NodeFault> {
         let count = self.nodes;
         let node = offered_node(self, raw)?;
-        self.records.push_reserved(Record::Node(node));
-        self.nodes = count + 1;
+        self.append(Record::Node(node), count + 1, self.entries);
         Ok(count)
     }
 
     fn enter(&mut self, raw: RawEntry) -> Result<u16, EnterFault> {
         let count = self.entries;
         let entry = offered_entry(self, raw)?;
-        self.records.push_reserved(Record::Entry(entry));
-        self.entries = count + 1;
+        self.append(Record::Entry(entry), self.nodes, count + 1);
         Ok(count)
     }
 
     fn strike(&mut self, i: u16) -> Result<(), StrikeFault> {
         may_strike(self, i)?;
-        self.records.push_reserved(Record::Strike(i));
+        self.append(Record::Strike(i), self.nodes, self.entries);
         Ok(())
     }
 }

@@ -1,4 +1,4 @@
-// What a journal writes down.
+// The records of a journal.
 ghost use Rattle.std.specs.Prelude.{◌≡◌};
 ghost use Rattle.books.specs.Replay.{node_in};
 

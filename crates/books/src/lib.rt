@@ -1,5 +1,5 @@
-// Rule books: what a book is to its readers and to those who write in it, the tests of an offered
-// record, the slot table, and the journal.
+// Rule books: the traits of a book to read and of a book to edit, the tests of an offered record, and two books to
+// edit, the slot table and the journal.
 #![tactic(auto)]
 
 pub mod book;

@@ -1,4 +1,4 @@
-// Reads of lists, past the end too.
+// Reading a list, also past its end.
 ghost use Rattle.std.specs.Prelude.{◌≡◌, slice_index_or};
 
 // Item i, or `past` from the end on.

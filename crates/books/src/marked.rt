@@ -1,21 +1,18 @@
-// Books that know of each node whether it is plain, and what they say to an offered record.
-ghost use Rattle.std.specs.Prelude.{◌≡◌};
+// Books that know of each node whether it is plain, and how they test an offered record.
+ghost use Rattle.std.specs.Prelude.{◌≡◌, ◌↔◌, IsOk};
 ghost use Rattle.logic.specs.Concepts.{concepts, plain, is_typical};
 ghost use Rattle.logic.specs.Books.{concept};
+ghost use Rattle.logic.specs.Refusals.{NodeFits, EntryFits};
 ghost use Rattle.books.specs.Answers.{IsPlainnessOf};
 ghost use Rattle.books.specs.Marks.{HasRoom, NodeOffered, EntryOffered, MayStrike};
 
 use crate::book::ReadableBook;
 use crate::faults::{EnterFault, NodeFault, OfferFault, Reason, StrikeFault};
 use crate::offers::{PlainOperands, judge_entry, judge_node, plain_node, typical_node};
+use logic::limits::{ENTRIES, NODES};
 use logic::records::{Entry, Node, RawEntry, RawNode};
 
-// How many nodes a book has at most, and how many entries.
-pub(crate) const NODES: u16 = 512;
-
-pub(crate) const ENTRIES: u16 = 256;
-
-// A node and whether it is plain, which is a fact about the node and not whether there is one.
+// A node, and whether it is plain.
 #[derive(Clone, Copy)]
 pub(crate) struct MarkedNode {
     pub(crate) node: Node,
@@ -34,7 +31,7 @@ pub(crate) trait MarkedBook: ReadableBook {
         ensures { result ≡ plain (concept (Self.ReadableBook.meaning self.now) i) };
 }
 
-// Whether there is room for one record more.
+// Whether there is room for one more record.
 fn room<R>(count: u16, limit: u16) -> Result<(), OfferFault<R>>
     ensures { HasRoom count limit result }
 {
@@ -61,9 +58,11 @@ fn typical_at<B: ReadableBook>(book: &B, i: u16) -> bool
     typical_node(book.node_at(i))
 }
 
-// The offered node with its mark, or why the book refuses it. Apart from that of an entry, as the tests are.
+// The offered node with its mark, or why the book refuses it. Separate from the entry version because the tests
+// differ.
 pub(crate) fn offered_node<B: MarkedBook>(book: &B, raw: RawNode) -> Result<MarkedNode, NodeFault>
-    ensures { NodeOffered (B.ReadableBook.meaning book.now) raw result }
+    ensures offered { NodeOffered (B.ReadableBook.meaning book.now) raw result }
+    ensures exact { IsOk result ↔ NodeFits (B.ReadableBook.meaning book.now) raw }
 {
     let count = book.node_count();
     room(count, NODES)?;
@@ -78,7 +77,8 @@ pub(crate) fn offered_node<B: MarkedBook>(book: &B, raw: RawNode) -> Result<Mark
 
 // The offered entry, or why the book refuses it.
 pub(crate) fn offered_entry<B: MarkedBook>(book: &B, raw: RawEntry) -> Result<Entry, EnterFault>
-    ensures { EntryOffered (B.ReadableBook.meaning book.now) raw result }
+    ensures offered { EntryOffered (B.ReadableBook.meaning book.now) raw result }
+    ensures exact { IsOk result ↔ EntryFits (B.ReadableBook.meaning book.now) raw }
 {
     let count = book.entry_count();
     room(count, ENTRIES)?;

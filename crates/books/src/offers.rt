@@ -1,5 +1,6 @@
-// The tests of a node or an entry that is offered to a book. "For every book" and "for every list of concepts"
-// stand in many contracts: they bind a variable of the statement, and are no fact about a value.
+// The tests of a node or an entry that is offered to a book, by what is known of its operands. A clause named
+// `flags` fixes the answer for any flags. One that begins with a book or a list of concepts says what the answer
+// means where the flags are true of that book; it quantifies over all books, since the function is given none.
 ghost use Rattle.std.specs.Prelude.{◌≡◌, List, length};
 ghost use Rattle.logic.specs.Written.{node_of, node_a, node_b, entry_of, entry_a, entry_b};
 ghost use Rattle.logic.specs.Concepts.{Concept, concepts, of, read, plain, is_typical};
@@ -7,20 +8,20 @@ ghost use Rattle.logic.specs.Books.{Book, concept};
 ghost use Rattle.logic.specs.Lawful.{node_within_limits, node_operands_below, node_typicality_allowed, entry_within_limits, entry_operands_below, entry_typicality_allowed};
 ghost use Rattle.logic.specs.Refusals.{node_unfit, node_unused_zero, entry_unfit, entry_unused_zero};
 ghost use Rattle.books.specs.Answers.{Judged, IsPlainnessOf, FirstUnfit};
+ghost use Rattle.books.specs.Offers.{plain_by, node_placed_by, entry_placed_by, node_unfit_by, entry_unfit_by};
 
 use crate::faults::Unfit;
+use logic::limits::{INDIVIDUALS, NAMES, ROLES};
 use logic::records::{Entry, Node, RawEntry, RawNode};
 
-// What a book tells of the nodes a and b of an offered record: whether they are plain.
+// Whether the operands a and b of an offered record are plain nodes.
 #[derive(Clone, Copy)]
 pub struct PlainOperands {
     pub plain_a: bool,
     pub plain_b: bool,
 }
 
-// The first of four tests that fails, in the order of the refusals, for nodes and entries. The tests themselves
-// are two sets: one function over both would take a trait with a ghost member for each test. Four flags and no
-// enum: each test is told by a function of its own, and only their order is said here.
+// The first of four tests that fails, in the order of the refusals, for nodes and entries.
 fn first_unfit(known: bool, in_range: bool, there: bool, placed: bool) -> Result<(), Unfit>
     ensures { FirstUnfit known in_range there placed result }
 {
@@ -43,8 +44,8 @@ fn node_within_limits(node: Node) -> bool
     ensures { result ≡ node_within_limits node }
 {
     match node {
-        Node::Name(name) => name < 64,
-        Node::All(role, _) | Node::Exists(role, _) => role < 16,
+        Node::Name(name) => name < NAMES,
+        Node::All(role, _) | Node::Exists(role, _) => role < ROLES,
         _ => true,
     }
 }
@@ -69,7 +70,7 @@ fn node_operands_below(count: u16, node: Node) -> bool
 
 // Whether typicality is in place in a node.
 fn node_typicality_allowed(node: Node, plain_operands: PlainOperands) -> bool
-    ensures { (cs : List Concept) → IsPlainnessOf cs (node_a node) (node_b node) plain_operands → result ≡ node_typicality_allowed cs node }
+    ensures { result ≡ node_placed_by plain_operands node }
 {
     let PlainOperands { plain_a, plain_b } = plain_operands;
     match node {
@@ -79,9 +80,10 @@ fn node_typicality_allowed(node: Node, plain_operands: PlainOperands) -> bool
     }
 }
 
-// Whether a node is plain.
+// Whether a node is plain: no typicality occurs in its concept.
 pub fn plain_node(node: Node, plain_operands: PlainOperands) -> bool
-    ensures { (cs : List Concept) → IsPlainnessOf cs (node_a node) (node_b node) plain_operands → result ≡ plain (read cs node) }
+    ensures flags { result ≡ plain_by plain_operands node }
+    ensures concept { (cs : List Concept) → IsPlainnessOf cs (node_a node) (node_b node) plain_operands → result ≡ plain (read cs node) }
 {
     match node {
         Node::Not(_) => plain_operands.plain_a,
@@ -99,9 +101,11 @@ pub fn typical_node(node: Node) -> bool
     matches!(node, Node::Typical(_))
 }
 
-// The node that is offered, or why it does not fit a book of `count` nodes.
+// The node that is offered, or why it does not fit a book of `count` nodes, whose limit is tested apart.
 pub fn judge_node(count: u16, plain_operands: PlainOperands, raw: RawNode) -> Result<Node, Unfit>
-    ensures { (bk : Book) → length bk.nodes ≡ count → IsPlainnessOf (concepts bk.nodes) raw.a raw.b plain_operands → Judged (node_unfit bk raw) (node_of raw) result }
+    ensures flags { Judged (node_unfit_by count plain_operands raw) (node_of raw) result }
+    ensures books { (bk : Book) → length bk.nodes ≡ count → IsPlainnessOf (concepts bk.nodes) raw.a raw.b plain_operands
+        → Judged (node_unfit bk raw) (node_of raw) result }
 {
     let node = Node::from(raw);
     first_unfit(
@@ -117,8 +121,8 @@ fn entry_within_limits(entry: Entry) -> bool
     ensures { result ≡ entry_within_limits entry }
 {
     match entry {
-        Entry::Fact(individual, _) => individual < 32,
-        Entry::RoleFact(role, from, to) => role < 16 && from < 32 && to < 32,
+        Entry::Fact(individual, _) => individual < INDIVIDUALS,
+        Entry::RoleFact(role, from, to) => role < ROLES && from < INDIVIDUALS && to < INDIVIDUALS,
         Entry::Inclusion(_, _) | Entry::Absent => true,
     }
 }
@@ -143,7 +147,7 @@ fn entry_operands_below(count: u16, entry: Entry) -> bool
 
 // Whether typicality is in place in an entry, given whether its node a is typicality of something.
 fn entry_typicality_allowed(entry: Entry, typical_a: bool, plain_operands: PlainOperands) -> bool
-    ensures { (cs : List Concept) → is_typical (of cs (entry_a entry)) ≡ typical_a → IsPlainnessOf cs (entry_a entry) (entry_b entry) plain_operands → result ≡ entry_typicality_allowed cs entry }
+    ensures { result ≡ entry_placed_by typical_a plain_operands entry }
 {
     match entry {
         Entry::Inclusion(_, _) => (typical_a || plain_operands.plain_a) && plain_operands.plain_b,
@@ -151,14 +155,17 @@ fn entry_typicality_allowed(entry: Entry, typical_a: bool, plain_operands: Plain
     }
 }
 
-// The entry that is offered, or why it does not fit a book of `count` nodes.
+// The entry that is offered, or why it does not fit a book of `count` nodes; `typical_a` tells whether node a
+// is typicality of something.
 pub fn judge_entry(
     count: u16,
     typical_a: bool,
     plain_operands: PlainOperands,
     raw: RawEntry,
 ) -> Result<Entry, Unfit>
-    ensures { (bk : Book) → length bk.nodes ≡ count → is_typical (concept bk raw.a) ≡ typical_a → IsPlainnessOf (concepts bk.nodes) raw.a raw.b plain_operands → Judged (entry_unfit bk raw) (entry_of raw) result }
+    ensures flags { Judged (entry_unfit_by count typical_a plain_operands raw) (entry_of raw) result }
+    ensures books { (bk : Book) → length bk.nodes ≡ count → is_typical (concept bk raw.a) ≡ typical_a
+        → IsPlainnessOf (concepts bk.nodes) raw.a raw.b plain_operands → Judged (entry_unfit bk raw) (entry_of raw) result }
 {
     let entry = Entry::from(raw);
     first_unfit(

@@ -9,9 +9,8 @@ use crate::book::{EditableBook, ReadableBook};
 use crate::entries::{strike_entry, taken};
 use crate::faults::{EnterFault, NodeFault, StrikeFault};
 use crate::lists::item_or;
-use crate::marked::{
-    ENTRIES, MarkedBook, MarkedNode, NO_NODE, NODES, may_strike, offered_entry, offered_node,
-};
+use crate::marked::{MarkedBook, MarkedNode, NO_NODE, may_strike, offered_entry, offered_node};
+use logic::limits::{ENTRIES, NODES};
 use logic::records::{NO_STORED_ENTRY, Node, RawEntry, RawNode, StoredEntry};
 use std::alloc::{AllocError, Global};
 

@@ -38,7 +38,7 @@ impl Offered for RawEntry {
     }
 }
 
-// Offers records one after the other, up to the first that is refused.
+// Offers records one after the other, up to the first that is refused; those before it stay in the book.
 pub fn write_all<B: EditableBook, R: Offered>(book: &mut B, raws: &[R]) -> Result<(), OfferFault<R>>
     ensures { ListAnswer R.offer (B.ReadableBook.meaning book.old) (B.ReadableBook.meaning book.new) raws.now result }
 {

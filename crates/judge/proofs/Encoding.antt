@@ -13,7 +13,8 @@ use Rattle.logic.specs.Branches.{Branch, start, with, with_new}
 use Rattle.logic.specs.Rules.{step, Extends, fact, role_fact, not_holds, not_fails, and_holds, or_fails, some_holds, all_fails, all_holds, some_fails, typical_holds, admits, bars, Splits, inclusion, or_holds, and_fails, typical_fails, Closes, holds_and_fails, bars_and_admits, bottom_holds, top_fails}
 use Rattle.logic.specs.Tableaux.{Closed, close, extend, split, writing}
 use Rattle.logic.specs.Limits.{AfterEachStep, FewLabels}
-use Rattle.judge.specs.Steps.{u16_at, step_at, first_steps, decoded, encoded, Bytes}
+use Rattle.logic.specs.Bytes.{u16_at}
+use Rattle.judge.specs.Steps.{step_at, first_steps, decoded, encoded, Bytes}
 use Rattle.judge.specs.Laws.{TableauxHaveBytes}
 use Rattle.judge.proofs.Agreeing.{live_within}
 

@@ -2,18 +2,15 @@
 -- step_at, decoded: the steps that bytes are. WholeSteps: bytes of whole steps, and not too many.
 -- encoded: the bytes of steps. Bytes: numbers that are bytes.
 -- Assumes nothing.
-use Rattle.std.specs.Prelude.{◌≡◌, ℕ, zero, suc, ◌+◌, ◌*◌, ◌/◌, ◌%◌, ◌<◌, ◌≤◌, List, [], ◌∷◌, ◌++◌, length, slice_index}
+use Rattle.std.specs.Prelude.{◌≡◌, ℕ, zero, suc, ◌+◌, ◌*◌, ◌/◌, ◌%◌, ◌<◌, ◌≤◌, List, [], ◌∷◌, ◌++◌, length}
 use Rattle.std.specs.List.{AllByRecursion}
+use Rattle.logic.specs.Bytes.{byte, u16_at}
 use Rattle.logic.specs.declared.tableau.Step.{Step}
 use Rattle.logic.specs.Rules.{step}
 
--- the number in the two bytes from place p on
-abbrev pub u16_at : List ℕ → ℕ → ℕ
-u16_at bs p = slice_index bs p + 256 * slice_index bs (p + 1)
-
 -- step i
 abbrev pub step_at : List ℕ → ℕ → Step
-step_at bs i = step (slice_index bs (5 * i)) (u16_at bs (5 * i + 1)) (u16_at bs (5 * i + 3))
+step_at bs i = step (byte bs (5 * i)) (u16_at bs (5 * i + 1)) (u16_at bs (5 * i + 3))
 
 -- the first n steps
 abbrev pub first_steps : ℕ → List ℕ → List Step

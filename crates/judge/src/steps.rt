@@ -2,6 +2,7 @@
 ghost use Rattle.std.specs.Prelude.{◌≡◌, length};
 ghost use Rattle.judge.specs.Steps.{step_at};
 
+use logic::bytes::u16_at;
 use logic::tableau::Step;
 
 // The bytes of a step.
@@ -17,7 +18,7 @@ pub(crate) fn step_of(bytes: &[u8]) -> Step
 {
     Step {
         op: bytes[0],
-        a: u16::from_le_bytes([bytes[1], bytes[2]]),
-        b: u16::from_le_bytes([bytes[3], bytes[4]]),
+        a: u16_at(bytes, 1),
+        b: u16_at(bytes, 3),
     }
 }

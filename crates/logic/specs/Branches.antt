@@ -3,6 +3,7 @@
 -- individuals alone. with, with_new: a branch with more on it. Says, Leads: what stands on a branch.
 -- Assumes nothing.
 use Rattle.std.specs.Prelude.{ℕ, ◌+◌, List, [], ◌++◌}
+use Rattle.logic.specs.Bounds.{role_limit, individual_limit}
 use Rattle.logic.specs.declared.tableau.Form.{Form}
 use Rattle.logic.specs.declared.tableau.Form.TheVariants.{Holds, Fails, Bars, Admits}
 use Rattle.logic.specs.declared.tableau.Constraint.{Constraint}
@@ -22,15 +23,19 @@ pub record Branch : Type 0 where
   pub edges : List Edge
   pub next : ℕ
 
--- labels 0 to 31, which are the individuals, and nothing else
+-- the individuals as labels, and nothing else
 abbrev pub start : Branch
-start = record { constraints = []; edges = []; next = 32 }
+start = record { constraints = []; edges = []; next = individual_limit }
 
 -- form f of node n at label x
 abbrev pub constraint : ℕ → Form → ℕ → Constraint
 constraint x f n = record { label = x; form = f; node = n }
 
--- role r leads from x to y; at role 16, y is better than x
+-- in place of a role it says that the second label is better than the first; no role has this number
+abbrev pub better_role : ℕ
+better_role = role_limit
+
+-- role r leads from x to y; at better_role, y is better than x
 abbrev pub edge : ℕ → ℕ → ℕ → Edge
 edge x r y = record { from = x; role = r; to = y }
 

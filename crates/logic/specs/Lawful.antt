@@ -9,6 +9,7 @@ use Rattle.logic.specs.declared.records.Entry.{Entry}
 use Rattle.logic.specs.declared.records.Entry.TheVariants as entry
 use Rattle.logic.specs.Concepts.{Concept, of, concepts, plain, is_typical}
 use Rattle.std.specs.List.{AllByRecursion}
+use Rattle.logic.specs.Bounds.{node_limit, entry_limit, name_limit, role_limit, individual_limit}
 use Rattle.logic.specs.Books.{Book, node_at}
 
 -- it is a node at all
@@ -24,16 +25,16 @@ is_node (node.Exists r c) = true
 is_node (node.Typical c) = true
 is_node node.Absent = false
 
--- there are 64 concept names and 16 roles
+-- names and roles are below their limits
 abbrev pub node_within_limits : Node → Bool
 node_within_limits node.Top = true
 node_within_limits node.Bottom = true
-node_within_limits (node.Name a) = nat_lt a 64
+node_within_limits (node.Name a) = nat_lt a name_limit
 node_within_limits (node.Not c) = true
 node_within_limits (node.And c d) = true
 node_within_limits (node.Or c d) = true
-node_within_limits (node.All r c) = nat_lt r 16
-node_within_limits (node.Exists r c) = nat_lt r 16
+node_within_limits (node.All r c) = nat_lt r role_limit
+node_within_limits (node.Exists r c) = nat_lt r role_limit
 node_within_limits (node.Typical c) = true
 node_within_limits node.Absent = true
 
@@ -70,11 +71,11 @@ is_entry (entry.Fact x c) = true
 is_entry (entry.RoleFact r x y) = true
 is_entry entry.Absent = false
 
--- there are 32 individuals and 16 roles
+-- individuals and roles are below their limits
 abbrev pub entry_within_limits : Entry → Bool
 entry_within_limits (entry.Inclusion c d) = true
-entry_within_limits (entry.Fact x c) = nat_lt x 32
-entry_within_limits (entry.RoleFact r x y) = nat_lt r 16 && (nat_lt x 32 && nat_lt y 32)
+entry_within_limits (entry.Fact x c) = nat_lt x individual_limit
+entry_within_limits (entry.RoleFact r x y) = nat_lt r role_limit && (nat_lt x individual_limit && nat_lt y individual_limit)
 entry_within_limits entry.Absent = true
 
 -- each node that it speaks of is one of the first n
@@ -101,8 +102,8 @@ abbrev pub entry_well_formed : ℕ → Entry → Bool
 entry_well_formed n e = is_entry e && (entry_within_limits e && entry_operands_below n e)
 
 pub record WellFormed (bk : Book) : Type 0 where
-  pub few_nodes : length bk.nodes ≤ 512
-  pub few_entries : length bk.entries ≤ 256
+  pub few_nodes : length bk.nodes ≤ node_limit
+  pub few_entries : length bk.entries ≤ entry_limit
   pub nodes : (i : ℕ) → i < length bk.nodes → node_well_formed i (node_at bk i) ≡ true
   pub entries : AllByRecursion (λ l. entry_well_formed (length bk.nodes) l.entry ≡ true) bk.entries
 

@@ -1,3 +1,7 @@
+-- the limits
+pub mod Bounds
+-- numbers in bytes
+pub mod Bytes
 -- the numbers of each record
 pub mod Written
 -- concepts, and what each node stands for

@@ -4,6 +4,7 @@
 -- LongerListsFit: what fits lists fits longer ones.
 -- Assumes nothing.
 use Rattle.std.specs.Prelude.{ℕ, suc, ◌≤◌, length}
+use Rattle.logic.specs.Bounds.{step_limit, label_limit}
 use Rattle.logic.specs.Books.{Book}
 use Rattle.logic.specs.Branches.{Branch}
 use Rattle.logic.specs.Tableaux.{Closed, close, extend, split, writing}
@@ -33,13 +34,13 @@ pub record LongEnough (ls : Lengths) (pending : ℕ) (br : Branch) : Type 0 wher
 abbrev pub FitsLists : {bk : Book} {br : Branch} → Lengths → Closed bk br → Type 0
 FitsLists ls t = AfterEachStep (LongEnough ls) 0 t
 
--- labels are the numbers below next, so none is above 255
+-- labels are the numbers below next
 abbrev pub FewLabels : ℕ → Branch → Type 0
-FewLabels pending br = br.next ≤ 256
+FewLabels pending br = br.next ≤ label_limit
 
--- at most 8,192 steps, and no label above 255
+-- not too many steps, and on no branch too many labels
 pub record WithinLimits {bk : Book} {br : Branch} (t : Closed bk br) : Type 0 where
-  pub steps : length (writing t) ≤ 8192
+  pub steps : length (writing t) ≤ step_limit
   pub labels : AfterEachStep FewLabels 0 t
 
 -- each list of the second is at least as long

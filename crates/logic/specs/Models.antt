@@ -4,9 +4,10 @@
 -- Bars: no better element is in a concept. Admits: it is not so that none is.
 -- Assumes nothing.
 use Rattle.std.specs.Prelude.{◌≡◌, ℕ, ◌<◌, ◌≤◌, Bool, true, false, ◌⊎◌}
+use Rattle.logic.specs.Bounds.{individual_limit}
 use Rattle.logic.specs.Concepts.{Concept, top, bottom, atom, not, and, or, all, some, typical}
 
--- The elements are the numbers below size. Two of the 32 individuals may be one element.
+-- The elements are the numbers below size. Two individuals may be one element.
 -- better y x says that y is better than x.
 pub record Model : Type 0 where
   pub size : ℕ
@@ -14,7 +15,7 @@ pub record Model : Type 0 where
   pub atoms : ℕ → ℕ → Bool
   pub roles : ℕ → ℕ → ℕ → Bool
   pub individual : ℕ → ℕ
-  pub individual_within : (a : ℕ) → a < 32 → individual a < size
+  pub individual_within : (a : ℕ) → a < individual_limit → individual a < size
   pub better : ℕ → ℕ → Bool
   pub irreflexive : (x : ℕ) → x < size → better x x ≡ false
   pub transitive : (x y z : ℕ) → x < size → y < size → z < size → better z y ≡ true → better y x ≡ true → better z x ≡ true

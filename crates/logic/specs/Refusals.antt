@@ -4,7 +4,8 @@
 -- unless_full: the limit before them. node_refusal, entry_refusal: both, for a node and for an entry.
 -- NodeFits, EntryFits: when a book can take the offered record and stay lawful.
 -- Assumes nothing.
-use Rattle.std.specs.Prelude.{ℕ, Bool, cond, not, ◌&&◌, length, ◌==◌, nat_le}
+use Rattle.std.specs.Prelude.{ℕ, Bool, if◌then◌else◌, not, ◌&&◌, length, ◌==◌, nat_le}
+use Rattle.logic.specs.Bounds.{node_limit, entry_limit}
 use Rattle.logic.specs.declared.records.Node.{Node}
 use Rattle.logic.specs.declared.records.RawNode.{RawNode}
 use Rattle.logic.specs.declared.records.Entry.{Entry}
@@ -18,7 +19,7 @@ use Rattle.logic.specs.Lawful.{Lawful, is_node, node_within_limits, node_operand
 -- 4 operand not there, 5 T out of place, 0 where none fails
 abbrev pub first_unfit : Bool → Bool → Bool → Bool → ℕ
 first_unfit known in_range there placed =
-    cond (not known) 2 (cond (not in_range) 3 (cond (not there) 4 (cond (not placed) 5 0)))
+    if not known then 2 else if not in_range then 3 else if not there then 4 else if not placed then 5 else 0
 
 -- an operand that the kind does not use is 0
 abbrev pub node_unused_zero : RawNode → Bool
@@ -31,10 +32,10 @@ node_unfit bk raw =
 
 -- 1 at the limit, and otherwise why the record does not fit
 abbrev pub unless_full : ℕ → ℕ → ℕ → ℕ
-unless_full limit count unfit = cond (nat_le limit count) 1 unfit
+unless_full limit count unfit = if nat_le limit count then 1 else unfit
 
 abbrev pub node_refusal : Book → RawNode → ℕ
-node_refusal bk raw = unless_full 512 (length bk.nodes) (node_unfit bk raw)
+node_refusal bk raw = unless_full node_limit (length bk.nodes) (node_unfit bk raw)
 
 abbrev pub entry_unused_zero : RawEntry → Bool
 entry_unused_zero raw =
@@ -46,7 +47,7 @@ entry_unfit bk raw =
     first_unfit (is_entry (entry_of raw)) (entry_within_limits (entry_of raw) && entry_unused_zero raw) (entry_operands_below (length bk.nodes) (entry_of raw)) (entry_typicality_allowed (concepts bk.nodes) (entry_of raw))
 
 abbrev pub entry_refusal : Book → RawEntry → ℕ
-entry_refusal bk raw = unless_full 256 (length bk.entries) (entry_unfit bk raw)
+entry_refusal bk raw = unless_full entry_limit (length bk.entries) (entry_unfit bk raw)
 
 -- the offer writes a node with which the book is lawful
 abbrev pub NodeFits : Book → RawNode → Type 0

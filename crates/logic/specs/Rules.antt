@@ -10,7 +10,7 @@ use Rattle.logic.specs.declared.tableau.Form.TheVariants.{Holds, Fails, Bars, Ad
 use Rattle.logic.specs.declared.tableau.Step.{Step}
 use Rattle.logic.specs.Books.{Book, node_at}
 use Rattle.logic.specs.Satisfaction.{Live}
-use Rattle.logic.specs.Branches.{Branch, constraint, edge, with, with_new, Says, Leads}
+use Rattle.logic.specs.Branches.{Branch, better_role, constraint, edge, with, with_new, Says, Leads}
 
 -- a rule's op, and its two operands, an unused one being 0
 abbrev pub step : ℕ → ℕ → ℕ → Step
@@ -52,9 +52,9 @@ pub data Extends (bk : Book) (br : Branch) : Step → Branch → Type 0 where
       Extends bk br (step 8 a 0) (with br (constraint x Holds c ∷ constraint x Bars c ∷ []) [])
   -- 10: admits: to a new label, which is better, is in the concept and has none better in it
   admits : {a x c : ℕ} → Says br a x Admits c →
-      Extends bk br (step 10 a 0) (with_new br (constraint br.next Holds c ∷ constraint br.next Bars c ∷ []) (edge x 16 br.next ∷ []))
+      Extends bk br (step 10 a 0) (with_new br (constraint br.next Holds c ∷ constraint br.next Bars c ∷ []) (edge x better_role br.next ∷ []))
   -- 11: bars: along an edge to a better element
-  bars : {a b x y c : ℕ} → Says br a x Bars c → Leads br b x 16 y →
+  bars : {a b x y c : ℕ} → Says br a x Bars c → Leads br b x better_role y →
       Extends bk br (step 11 a b) (with br (constraint y Fails c ∷ constraint y Bars c ∷ []) [])
 
 -- rules that split a branch: the step, and the two branches

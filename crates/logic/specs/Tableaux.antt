@@ -2,7 +2,8 @@
 -- Closed: a closed tableau over a branch. writing: its steps. names: whether some step names an entry.
 -- named_count: how many different entries the steps name.
 -- Assumes nothing.
-use Rattle.std.specs.Prelude.{ℕ, zero, suc, ◌+◌, Bool, false, cond, ◌&&◌, ◌||◌, List, [], ◌∷◌, ◌++◌, ◌==◌}
+use Rattle.std.specs.Prelude.{ℕ, zero, suc, ◌+◌, Bool, false, if◌then◌else◌, ◌&&◌, ◌||◌, List, [], ◌∷◌, ◌++◌, ◌==◌}
+use Rattle.logic.specs.Bounds.{entry_limit}
 use Rattle.logic.specs.declared.tableau.Step.{Step}
 use Rattle.logic.specs.Books.{Book}
 use Rattle.logic.specs.Branches.{Branch}
@@ -29,8 +30,8 @@ names (s ∷ ss) i = ((s.op == 1 || s.op == 2) && s.a == i) || names ss i
 -- how many of the numbers below n are named as entries
 abbrev pub named_below : ℕ → List Step → ℕ
 named_below zero ss = 0
-named_below (suc n) ss = cond (names ss n) 1 0 + named_below n ss
+named_below (suc n) ss = (if names ss n then 1 else 0) + named_below n ss
 
--- how many different entries are named; an entry's number is below 256
+-- how many different entries are named; an entry's number is below the limit
 abbrev pub named_count : List Step → ℕ
-named_count ss = named_below 256 ss
+named_count ss = named_below entry_limit ss

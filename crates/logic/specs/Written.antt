@@ -3,7 +3,7 @@
 -- WritesNode: these are the numbers of a node.
 -- entry_kind, entry_a, entry_b, entry_c, entry_of, WritesEntry: the same of entries.
 -- Assumes nothing.
-use Rattle.std.specs.Prelude.{◌≡◌, ℕ, cond, ◌==◌}
+use Rattle.std.specs.Prelude.{◌≡◌, ℕ, if◌then◌else◌, ◌==◌}
 use Rattle.logic.specs.declared.records.Node.{Node}
 use Rattle.logic.specs.declared.records.Node.TheVariants as node
 use Rattle.logic.specs.declared.records.RawNode.{RawNode}
@@ -53,15 +53,16 @@ node_b node.Absent = 0
 -- the node of a kind with these operands; Absent where no node has the kind
 abbrev pub node_of : RawNode → Node
 node_of raw =
-    cond (raw.kind == 0) node.Top
-    (cond (raw.kind == 1) node.Bottom
-    (cond (raw.kind == 2) (node.Name raw.a)
-    (cond (raw.kind == 3) (node.Not raw.a)
-    (cond (raw.kind == 4) (node.And raw.a raw.b)
-    (cond (raw.kind == 5) (node.Or raw.a raw.b)
-    (cond (raw.kind == 6) (node.All raw.a raw.b)
-    (cond (raw.kind == 7) (node.Exists raw.a raw.b)
-    (cond (raw.kind == 8) (node.Typical raw.a) node.Absent))))))))
+    if raw.kind == 0 then node.Top
+    else if raw.kind == 1 then node.Bottom
+    else if raw.kind == 2 then node.Name raw.a
+    else if raw.kind == 3 then node.Not raw.a
+    else if raw.kind == 4 then node.And raw.a raw.b
+    else if raw.kind == 5 then node.Or raw.a raw.b
+    else if raw.kind == 6 then node.All raw.a raw.b
+    else if raw.kind == 7 then node.Exists raw.a raw.b
+    else if raw.kind == 8 then node.Typical raw.a
+    else node.Absent
 
 -- these are the numbers of the node
 pub record WritesNode (raw : RawNode) (n : Node) : Type 0 where
@@ -100,9 +101,10 @@ entry_c entry.Absent = 0
 -- the entry of a kind with these operands; Absent where no entry has the kind
 abbrev pub entry_of : RawEntry → Entry
 entry_of raw =
-    cond (raw.kind == 1) (entry.Inclusion raw.a raw.b)
-    (cond (raw.kind == 2) (entry.Fact raw.a raw.b)
-    (cond (raw.kind == 3) (entry.RoleFact raw.a raw.b raw.c) entry.Absent))
+    if raw.kind == 1 then entry.Inclusion raw.a raw.b
+    else if raw.kind == 2 then entry.Fact raw.a raw.b
+    else if raw.kind == 3 then entry.RoleFact raw.a raw.b raw.c
+    else entry.Absent
 
 -- these are the numbers of the entry
 pub record WritesEntry (raw : RawEntry) (e : Entry) : Type 0 where

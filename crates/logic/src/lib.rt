@@ -1,8 +1,10 @@
-// The records of a rule book and of a tableau. What they mean, which books are lawful, why an offered
-// record is refused and what the rules of the tableau are is said in specs/.
+// The records of rule books and tableaux, and their limits. The definitions are in specs/: the meaning of records,
+// lawful books, refusals, the rules of the tableau.
 #![tactic(auto)]
 
+pub mod bytes;
 pub mod laws;
+pub mod limits;
 pub mod records;
 pub mod refusal;
 pub mod tableau;

@@ -13,23 +13,22 @@ pub enum Node {
     All(u16, u16),
     Exists(u16, u16),
     Typical(u16),
-    // past the end of a book, where a question has an answer too: kind 255
+    // what stands past the end of a book; its kind is 255
     Absent,
 }
 
-// An entry: every element of one node is in another, an individual holds a node, or a role leads
-// from one individual to another.
+// An entry: every element of one node is in another (a concept inclusion), an individual is in a node (a concept
+// assertion), or a role leads from one individual to another (a role assertion).
 #[derive(Clone, Copy)]
 pub enum Entry {
     Inclusion(u16, u16),
     Fact(u16, u16),
     RoleFact(u16, u16, u16),
-    // past the end of a book, as for a node
+    // what stands past the end of a book; its kind is 255
     Absent,
 }
 
-// An entry in its place, live until it is struck. A mark beside the entry, since a case for live and one for struck
-// would hold the same.
+// An entry in its place, live until it is struck. A flag, because live and struck entries hold the same fields.
 #[derive(Clone, Copy)]
 pub struct StoredEntry {
     pub entry: Entry,
@@ -42,8 +41,8 @@ pub const NO_STORED_ENTRY: StoredEntry = StoredEntry {
     live: false,
 };
 
-// A node as it is written and offered: nothing is known of its numbers. The kind is one of them, since an
-// unknown kind is offered too, and refused.
+// A node as it is written and offered, any numbers at all. The kind is a number, since an unknown kind can be
+// offered too, and is then refused.
 #[derive(Clone, Copy, Debug, PartialEq, Eq)]
 pub struct RawNode {
     pub kind: u8,

@@ -1,8 +1,8 @@
-// The records of a tableau: what stands on a branch, and the steps in which a tableau is written.
+// The records of a tableau: constraints and edges, which stand on a branch, and the steps that a tableau is written as.
 ghost use Rattle.std.specs.Prelude.{◌≡◌};
 ghost use Rattle.logic.specs.Branches.{form_number};
 
-// What a constraint says of a label and a node.
+// The form of a constraint: what it says of the element of its label and the concept of its node.
 #[derive(Clone, Copy, PartialEq, Eq)]
 pub enum Form {
     // the element is in the concept
@@ -15,7 +15,7 @@ pub enum Form {
     Admits,
 }
 
-// The number by which a form goes.
+// The number of a form.
 impl From<Form> for u8 {
     ghost from_gives = { λ form n. n ≡ form_number form };
 
@@ -45,8 +45,8 @@ pub struct Edge {
     pub to: u8,
 }
 
-// A step names a rule by its op, and entries, labels, constraints and edges by their numbers. The op is a
-// number too, since an unknown op is handed in too, and refused.
+// A step names a rule by its op, and entries, labels, constraints and edges by their numbers. The op is a number,
+// since an unknown op can be handed in too, and is then refused.
 #[derive(Clone, Copy)]
 pub struct Step {
     pub op: u8,

@@ -4,8 +4,8 @@ ghost use Rattle.logic.specs.Written.{node_of, entry_of, WritesNode, WritesEntry
 
 use crate::records::{Entry, Node, RawEntry, RawNode};
 
-// The node of these numbers, or Absent where the kind is unknown. Unused operands are passed over. A case and no
-// error: those who read records that were checked would carry an error that never comes.
+// The node of these numbers; unused operands are ignored. An unknown kind gives `Absent`, not an error: most callers
+// read checked records.
 impl From<RawNode> for Node {
     ghost from_gives = { λ raw n. n ≡ node_of raw };
 
@@ -46,7 +46,7 @@ impl From<Node> for RawNode {
     }
 }
 
-// The entry of these numbers, or Absent where the kind is unknown, as for a node. Unused operands are passed over.
+// The entry of these numbers; unused operands are ignored, and an unknown kind gives `Absent`.
 impl From<RawEntry> for Entry {
     ghost from_gives = { λ raw e. e ≡ entry_of raw };
 

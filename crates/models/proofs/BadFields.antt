@@ -47,7 +47,7 @@ module _ (t : Tables) (sized : Good (by_tables t) size) where
   ]
 
   pub bad_name : (a : ℕ) → FirstWithout (λ a. Good I (name a)) 64 (Some a) → LowestBad I (1 + 4 * a)
-  bad_name a found = record { field = name a; stands = refl; bad = found.1; lowest = before }
+  bad_name a found = record { field = name a; in_bytes = found.0; stands = refl; bad = found.1; lowest = before }
     where
       before : (f : Field) → first_byte f < 1 + 4 * a → Good I f
       before size h = sized
@@ -56,7 +56,7 @@ module _ (t : Tables) (sized : Good (by_tables t) size) where
       before (individual b) h = absurd (omega (arith, found.0))
 
   pub bad_role : (r x : ℕ) → r < 16 → length t.names ≡ 64 → FirstWithout (λ a. Good I (name a)) 64 None → ((q : ℕ) → q < r → (y : ℕ) → Good I (role q y)) → FirstWithout (λ x. SuccessorsWithin t.size x (get_or (get_or t.roles r []) x 0)) 32 (Some x) → LowestBad I (257 + 4 * (32 * r + x))
-  bad_role r x few count named above found = record { field = role r x; stands = refl; bad = found.1; lowest = before }
+  bad_role r x few count named above found = record { field = role r x; in_bytes = (few, found.0); stands = refl; bad = found.1; lowest = before }
     where
       before : (f : Field) → first_byte f < 257 + 4 * (32 * r + x) → Good I f
       before size h = sized
@@ -78,7 +78,7 @@ module _ (t : Tables) (sized : Good (by_tables t) size) where
       every (name a) = every_name names named a
       every (role r x) = every_role roles successors r x
       every (individual a) = every_individual individuals placed a
-  bad_individual (Some a) r names roles individuals named successors placed e = subst (FirstBad I) (sym e) (record { field = individual a; stands = refl; bad = placed.1; lowest = before })
+  bad_individual (Some a) r names roles individuals named successors placed e = subst (FirstBad I) (sym e) (record { field = individual a; in_bytes = placed.0; stands = refl; bad = placed.1; lowest = before })
     where
       before : (f : Field) → first_byte f < 2305 + a → Good I f
       before size h = sized

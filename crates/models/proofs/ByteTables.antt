@@ -1,7 +1,7 @@
 -- Tables of bytes, and numbers in them. Assumes nothing.
 use Rattle.std.proofs.Common.{◌≡◌, ℕ, zero, suc, ◌+◌, ◌*◌, ◌/◌, ◌^◌, ◌<◌, List, length, get_or, refl, ap, arith}
 use Rattle.std.specs.List.{AllByRecursion}
-use Rattle.orders.specs.Bytes.{byte, word}
+use Rattle.logic.specs.Bytes.{byte, u32_at}
 use Rattle.models.specs.Encodings.{first_values, byte_of}
 
 pub table_length : (n : ℕ) (f : ℕ → ℕ) → length (first_values n f) ≡ n
@@ -25,7 +25,7 @@ digit_small w zero = omega arith
 digit_small w (suc j) = digit_small (w / 256) j
 
 -- four bytes that are the digits of a number are that number
-pub word_of : (bs : List ℕ) (k w : ℕ) → w < 2 ^ 32 → byte bs k ≡ byte_of w 0 → byte bs (k + 1) ≡ byte_of w 1 → byte bs (k + 2) ≡ byte_of w 2 → byte bs (k + 3) ≡ byte_of w 3 → word bs k ≡ w
+pub word_of : (bs : List ℕ) (k w : ℕ) → w < 2 ^ 32 → byte bs k ≡ byte_of w 0 → byte bs (k + 1) ≡ byte_of w 1 → byte bs (k + 2) ≡ byte_of w 2 → byte bs (k + 3) ≡ byte_of w 3 → u32_at bs k ≡ w
 word_of bs k w h a b c d =
     let e : byte_of w 0 + 256 * byte_of w 1 + 65536 * byte_of w 2 + 16777216 * byte_of w 3 ≡ w = omega arith in
     omega arith

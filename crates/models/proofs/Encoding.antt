@@ -2,7 +2,7 @@
 use Rattle.std.proofs.Common.{◌≡◌, ℕ, ◌+◌, ◌-◌, ◌*◌, ◌/◌, ◌%◌, ◌^◌, ◌<◌, ◌≤◌, ◌&&◌, eqb, ltb, ◌⊎◌, sym, refl, ap, ◌∙◌, subst, inl, inr, arith}
 use Rattle.std.proofs.lemmas.Bool.{cases_lt, cases_Bool, and_parts, and_from, ltb-true, lt-ltb, le-ltb, ne_eqb, cond-true, cond-false, cond_both}
 use Rattle.logic.specs.Models.{Model}
-use Rattle.orders.specs.Bytes.{byte, word}
+use Rattle.logic.specs.Bytes.{byte, u32_at}
 use Rattle.orders.specs.Masks.{has, mask_of, Within}
 use Rattle.models.specs.Interpretations.{interpretation_of}
 use Rattle.models.specs.Fields.{Field, size, name, role, individual, Good}
@@ -39,7 +39,7 @@ module _ (m : Model) (few : m.size ≤ 32) where
       ∙ cond-true _ _ _ (lt-ltb k 2305 (omega arith))
       ∙ ap (λ q. byte_of (model_mask m q) ((k - 1) % 4)) quotient ∙ ap (byte_of (model_mask m i)) rest
 
-  mask_word : (i : ℕ) → i < 576 → word (model_bytes m) (1 + 4 * i) ≡ model_mask m i
+  mask_word : (i : ℕ) → i < 576 → u32_at (model_bytes m) (1 + 4 * i) ≡ model_mask m i
   mask_word i h =
       word_of (model_bytes m) (1 + 4 * i) (model_mask m i) (model_mask_small i)
       (mask_byte _ i 0 (omega arith) h (omega arith)) (mask_byte _ i 1 refl h (omega arith)) (mask_byte _ i 2 refl h (omega arith)) (mask_byte _ i 3 refl h (omega arith))
@@ -57,7 +57,7 @@ module _ (m : Model) (few : m.size ≤ 32) where
       let from : (i - 64) % 32 ≡ x = omega arith in
       let by : (i - 64) / 32 ≡ r = omega arith in
       cond-true _ _ _ (and_from _ _ (lt-ltb r 16 h) (lt-ltb x 32 l))
-      ∙ ap (word (model_bytes m)) at ∙ mask_word i (omega arith)
+      ∙ ap (u32_at (model_bytes m)) at ∙ mask_word i (omega arith)
       ∙ cond-false _ _ _ (le-ltb i 64 (omega arith))
       ∙ ap (λ q. successor_mask m q ((i - 64) % 32)) by ∙ ap (successor_mask m r) from
 

@@ -1,7 +1,7 @@
 -- The pairs of a model are its "better". Assumes nothing.
 use Rattle.std.proofs.Common.{◌≡◌, ℕ, ◌+◌, ◌*◌, ◌/◌, ◌%◌, ◌<◌, ◌≤◌, length, sym, refl, ap, ◌∙◌, subst, arith}
 use Rattle.logic.specs.Models.{Model}
-use Rattle.orders.specs.Bytes.{byte}
+use Rattle.logic.specs.Bytes.{byte}
 use Rattle.orders.specs.Masks.{has, Within}
 use Rattle.orders.specs.PairLaws.{order_of_pairs, WholeRows, LawfulRow}
 use Rattle.orders.proofs.Strictness.{rows_strict, word_past}

@@ -1,10 +1,11 @@
 -- The fields of an interpretation, and which of them are good.
--- Field, first_byte: a field and where it stands. Good: what a field has to say. Valid: every field is
+-- Field, first_byte: a field and where it stands. InBytes: there is such a field. Good: what a field has to say. Valid: every field is
 -- good. LowestBad: the first byte of the lowest field that is not. FirstWithout: the lowest number that
 -- has not a property.
 -- Assumes nothing.
 use Rattle.std.specs.Prelude.{◌≡◌, ℕ, ◌+◌, ◌*◌, ◌<◌, ◌≤◌, Some, None, Option}
-use Rattle.orders.specs.Masks.{Within}
+use Rattle.logic.specs.Bounds.{name_limit, role_limit, individual_limit}
+use Rattle.orders.specs.Masks.{element_limit, Within}
 use Rattle.models.specs.Interpretations.{Interpretation}
 
 -- the size, the set of a name, the set of a role at an element, the element of an individual
@@ -19,6 +20,13 @@ first_byte size = 0
 first_byte (name a) = 1 + 4 * a
 first_byte (role r x) = 257 + 4 * (32 * r + x)
 first_byte (individual a) = 2305 + a
+
+-- one of the fields that the bytes have; no two of them begin at one byte
+abbrev pub InBytes : Field → Type 0
+InBytes size = Unit {0}
+InBytes (name a) = a < name_limit
+InBytes (role r x) = (r < role_limit) × (x < element_limit)
+InBytes (individual a) = a < individual_limit
 
 -- Of n elements, a role may lead from x to those of the set: all of them are there, and none where x is not.
 abbrev pub SuccessorsWithin : ℕ → ℕ → ℕ → Type 0
@@ -39,6 +47,7 @@ Valid i = (f : Field) → Good i f
 -- k is the first byte of a field that is not good, and every field before it is
 pub record LowestBad (i : Interpretation) (k : ℕ) : Type 0 where
   pub field : Field
+  pub in_bytes : InBytes field
   pub stands : first_byte field ≡ k
   pub bad : Good i field → ⊥
   pub lowest : (f : Field) → first_byte f < k → Good i f

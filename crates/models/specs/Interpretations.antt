@@ -2,7 +2,7 @@
 -- Interpretation: the sets of the names, the roles, and where the individuals are. interpretation_of: what bytes say.
 -- Assumes nothing.
 use Rattle.std.specs.Prelude.{ℕ, ◌+◌, ◌*◌, cond, ◌&&◌, List, nat_lt}
-use Rattle.orders.specs.Bytes.{byte, word}
+use Rattle.logic.specs.Bytes.{byte, u32_at}
 
 -- The elements are the numbers below size. names a is the set of concept name a, led r x the set of the
 -- elements to which role r leads from element x, individual a the element of individual a.
@@ -19,7 +19,7 @@ abbrev pub interpretation_of : List ℕ → Interpretation
 interpretation_of bs =
     record {
       size = byte bs 0;
-      names = λ a. cond (nat_lt a 64) (word bs (1 + 4 * a)) 0;
-      successors = λ r x. cond (nat_lt r 16 && nat_lt x 32) (word bs (257 + 4 * (32 * r + x))) 0;
+      names = λ a. cond (nat_lt a 64) (u32_at bs (1 + 4 * a)) 0;
+      successors = λ r x. cond (nat_lt r 16 && nat_lt x 32) (u32_at bs (257 + 4 * (32 * r + x))) 0;
       individual = λ a. cond (nat_lt a 32) (byte bs (2305 + a)) 0;
     }

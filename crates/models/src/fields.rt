@@ -5,7 +5,7 @@ ghost use Rattle.models.specs.Interpretations.{interpretation_of};
 ghost use Rattle.models.specs.Tables.{by_tables};
 ghost use Rattle.models.specs.Fields.{name, individual, Good, SuccessorsWithin, FirstWithout, FirstBad};
 
-use orders::bytes::{byte_at, word_at};
+use logic::bytes::{byte_at, u32_at};
 use orders::masks::within;
 use std::array::from_fn;
 
@@ -43,12 +43,12 @@ impl Tables {
     {
         Tables {
             size: byte_at(bytes, 0),
-            names: from_fn(|a| word_at(bytes, 1 + 4 * a as u16)),
+            names: from_fn(|a| u32_at(bytes, 1 + 4 * a)),
             roles: from_fn(
                 |r|
                     requires { r < 16 }
                     ensures { Tabulates ((interpretation_of bytes.entry.now).successors r) result }
-                { from_fn(|x| word_at(bytes, 257 + 4 * (32 * r + x) as u16)) },
+                { from_fn(|x| u32_at(bytes, 257 + 4 * (32 * r + x))) },
             ),
             individuals: from_fn(|a| byte_at(bytes, 2305 + a)),
         }

@@ -2,7 +2,7 @@
 use Rattle.std.proofs.Common.{◌≡◌, ℕ, ◌+◌, ◌*◌, ◌/◌, ◌<◌, ◌≤◌, true, false, ltb, List, length, None, sym, refl, ap, ◌∙◌, subst, inl, inr, arith}
 use Rattle.std.proofs.lemmas.List.{get_or_past}
 use Rattle.std.proofs.lemmas.Bool.{cases_lt, both_ways, and_parts, and_from, ltb-true, lt-ltb}
-use Rattle.orders.specs.Bytes.{byte, word}
+use Rattle.logic.specs.Bytes.{byte, u32_at}
 use Rattle.orders.specs.Masks.{has, Preference, Strict, by_rows, alone, Tabulates}
 use Rattle.orders.specs.PairLaws.{order_of_pairs, WholeRows, PairsLawful, LawfulRow, FirstUnlawful}
 use Rattle.orders.specs.RankLaws.{order_of_ranks, RanksLawful}
@@ -40,7 +40,7 @@ rows_strict o some few past rows = record {
     ]
 
 -- past the end there are only zeros
-pub word_past : (bs : List ℕ) (k : ℕ) → length bs ≤ k → word bs k ≡ 0
+pub word_past : (bs : List ℕ) (k : ℕ) → length bs ≤ k → u32_at bs k ≡ 0
 word_past bs k h =
     let a = get_or_past bs k 0 h in
     let b = get_or_past bs (k + 1) 0 (omega arith) in

@@ -1,9 +1,9 @@
--- numbers in bytes
-pub mod Bytes
 -- sets as masks, and strict orders
 pub mod Masks
 -- the order that rows hold
 pub mod RowOrders
+-- what an order means
+pub mod Orders
 -- orders by pairs
 pub mod PairLaws
 -- orders by ranks

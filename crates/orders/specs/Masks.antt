@@ -3,21 +3,25 @@
 -- an element in common. Within, Includes: what a set has. Preference: an order. Strict: its laws.
 -- by_rows: the order of a table of masks.
 -- Assumes nothing.
-use Rattle.std.specs.Prelude.{◌≡◌, ℕ, zero, suc, ◌+◌, ◌-◌, ◌*◌, ◌/◌, ◌%◌, ◌^◌, ◌<◌, ◌≤◌, min, Bool, true, false, cond, not, List, ◌==◌, bit_and, slice_index}
+use Rattle.std.specs.Prelude.{◌≡◌, ℕ, zero, suc, ◌+◌, ◌-◌, ◌*◌, ◌/◌, ◌%◌, ◌^◌, ◌<◌, ◌≤◌, min, Bool, true, false, if◌then◌else◌, not, List, ◌==◌, bit_and, slice_index}
+
+-- an order has at most so many elements, one for each bit of a mask
+abbrev pub element_limit : ℕ
+element_limit = 32
 
 -- element y is in the set: bit y of the mask
 abbrev pub has : ℕ → ℕ → Bool
 has mask zero = mask % 2 == 1
 has mask (suc y) = has (mask / 2) y
 
--- every element below n, of the 32 that there can be
+-- every element below n, of those that there can be
 abbrev pub all_below : ℕ → ℕ
-all_below n = 2 ^ min n 32 - 1
+all_below n = 2 ^ min n element_limit - 1
 
 -- the mask of those of the k elements from x on that pass the test, with element x at bit 0
 abbrev pub gathered : (ℕ → Bool) → ℕ → ℕ → ℕ
 gathered p x zero = 0
-gathered p x (suc k) = cond (p x) 1 0 + 2 * gathered p (x + 1) k
+gathered p x (suc k) = (if p x then 1 else 0) + 2 * gathered p (x + 1) k
 
 -- the mask of the elements below n that pass the test
 abbrev pub mask_of : (ℕ → Bool) → ℕ → ℕ
@@ -35,15 +39,15 @@ Within n set = (y : ℕ) → has set y ≡ true → y < n
 abbrev pub Includes : ℕ → ℕ → Type 0
 Includes set other = (y : ℕ) → has other y ≡ true → has set y ≡ true
 
--- an order on the elements below size: better x is the mask of the elements better than x
+-- The elements are the numbers below size; better x is the mask of the elements better than x. No law is asked.
 pub record Preference : Type 0 where
   pub size : ℕ
   pub better : ℕ → ℕ
 
--- a strict order on 1 to 32 elements, with nothing past the size
+-- a strict order on at least one element, with nothing past the size
 pub record Strict (o : Preference) : Type 0 where
   pub some : 1 ≤ o.size
-  pub few : o.size ≤ 32
+  pub few : o.size ≤ element_limit
   pub within : (x : ℕ) → Within o.size (o.better x)
   pub past : (x : ℕ) → o.size ≤ x → o.better x ≡ 0
   pub irreflexive : (x : ℕ) → has (o.better x) x ≡ false

@@ -3,18 +3,18 @@
 -- PairsLawful: the bytes that are a strict order.
 -- Assumes nothing.
 use Rattle.std.specs.Prelude.{◌≡◌, ℕ, ◌*◌, ◌/◌, ◌%◌, ◌<◌, ◌≤◌, true, false, List, length, Some, None, Option, slice_index}
-use Rattle.orders.specs.Bytes.{word}
-use Rattle.orders.specs.Masks.{has, Within, Includes, Preference, Strict}
+use Rattle.logic.specs.Bytes.{u32_at}
+use Rattle.orders.specs.Masks.{element_limit, has, Within, Includes, Preference, Strict}
 
 -- the order that the bytes say
 abbrev pub order_of_pairs : List ℕ → Preference
-order_of_pairs bs = record { size = length bs / 4; better = λ x. word bs (4 * x) }
+order_of_pairs bs = record { size = length bs / 4; better = λ x. u32_at bs (4 * x) }
 
--- four bytes for each of 1 to 32 elements
+-- four bytes for each of at least one element, and not too many elements
 pub record WholeRows (bs : List ℕ) : Type 0 where
   pub fours : length bs % 4 ≡ 0
   pub some : 4 ≤ length bs
-  pub few : length bs ≤ 128
+  pub few : length bs ≤ 4 * element_limit
 
 -- the bytes are a strict order
 abbrev pub PairsLawful : List ℕ → Type 0

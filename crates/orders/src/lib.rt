@@ -1,7 +1,8 @@
-// Strict orders on at most 32 elements: what an order is, and two kinds that are filled from bytes.
+// Strict orders on at most 32 elements: what an order is, two kinds that are filled from bytes, and a type for
+// either kind.
 #![tactic(auto)]
 
-pub mod bytes;
+pub mod any;
 pub mod faults;
 pub mod filled;
 pub mod laws;

@@ -1,31 +1,34 @@
-// Sets of elements as masks: bit x is element x.
-ghost use Rattle.std.specs.Prelude.{◌≡◌, ℕ, min, Bool, not, ◌&&◌, Decides};
-ghost use Rattle.orders.specs.Masks.{has, all_below, mask_of, meeting, Within, Includes};
+// Sets of elements as masks: bit x is element x, and there are at most 32.
+ghost use Rattle.std.specs.Prelude.{◌≡◌, ◌↔◌, ℕ, min, Bool, not, ◌&&◌, IsTrue};
+ghost use Rattle.orders.specs.Masks.{element_limit, has, all_below, mask_of, meeting, Within, Includes};
+
+// How many elements an order has at most: one for each bit of a mask.
+pub const ELEMENTS: u8 = 32;
 
 // The set of all elements below n, of the 32 that there can be.
 pub fn all_below(n: u8) -> u32
     ensures { result ≡ all_below n }
 {
-    if n < 32 { (1 << n) - 1 } else { u32::MAX }
+    if n < ELEMENTS { (1 << n) - 1 } else { u32::MAX }
 }
 
 // Whether element x is in the set.
 pub fn contains(set: u32, x: u8) -> bool
     ensures { result ≡ has set x }
 {
-    x < 32 && (set >> x) & 1 == 1
+    x < ELEMENTS && (set >> x) & 1 == 1
 }
 
 // Whether the set has only elements below n.
 pub fn within(set: u32, n: u8) -> bool
-    ensures { Decides result (Within n set) }
+    ensures { IsTrue result ↔ Within n set }
 {
     set <= all_below(n)
 }
 
 // Whether the set has every element of the other.
 pub fn includes(set: u32, other: u32) -> bool
-    ensures { Decides result (Includes set other) }
+    ensures { IsTrue result ↔ Includes set other }
 {
     other | set == set
 }
@@ -44,8 +47,7 @@ pub fn without(set: u32, other: u32) -> u32
     set ^ (set & other)
 }
 
-// A property of elements that can be tested. A trait and no closure, which would put a `requires` on the
-// public call below.
+// A property of elements that can be tested. A trait, since a closure would need a `requires` at the call below.
 pub trait Property {
     ghost holds: { Self → ℕ → Bool };
 
@@ -55,11 +57,11 @@ pub trait Property {
 
 // The set of the elements below n, of the 32 that there can be, that have the property.
 pub fn mask_of<P: Property>(property: &P, n: u8) -> u32
-    ensures { result ≡ mask_of (P.holds property.now) (min n 32) }
+    ensures { result ≡ mask_of (P.holds property.now) (min n element_limit) }
 {
-    // a loop that sets bit x: a fold that shifts what it has cannot take several elements at once
+    // a loop that sets bit x, since the compiler can take several elements at once in it
     let mut mask = 0;
-    for x in 0..n.min(32) {
+    for x in 0..n.min(ELEMENTS) {
         mask |= (property.test(x) as u32) << x;
     }
     mask

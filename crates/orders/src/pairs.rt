@@ -1,21 +1,26 @@
 // An order by pairs: the bytes have, for each element, the set of the elements that are better.
-ghost use Rattle.std.specs.Prelude.{◌≡◌, ℕ, ◌<◌, ◌≤◌, length, Decides};
+ghost use Rattle.std.specs.Prelude.{◌≡◌, ◌↔◌, ℕ, ◌<◌, ◌≤◌, length, IsTrue};
 ghost use Rattle.orders.specs.Masks.{by_rows, Tabulates};
 ghost use Rattle.orders.specs.PairLaws.{order_of_pairs, TransitiveAt, LawfulRow, FirstUnlawful, PairsLawful};
 ghost use Rattle.orders.specs.Answers.{PairsRefused};
 
-use crate::bytes::word_at;
 use crate::faults::PairsFault;
 use crate::filled::{Encoding, Filled};
-use crate::masks::{contains, includes, within};
+use crate::masks::{ELEMENTS, contains, includes, within};
 use crate::rows::Rows;
+use logic::bytes::u32_at;
 
-// Four bytes for each element, 1 to 32 of them: the set of its better elements as a mask, low byte first.
+// The bytes of one element: the mask of its better elements, low byte first.
+const ROW: usize = 4;
+
+const LONGEST: usize = ROW * ELEMENTS as usize;
+
+// The encoding by pairs: for each of 1 to 32 elements the set of its better elements as a mask of four bytes.
 pub struct ByPairs;
 
 pub type Pairs = Filled<ByPairs>;
 
-// The rows of at most 32 elements, of which no law is known yet, so these are no `Rows`.
+// The rows of at most 32 elements that were offered: unlike `Rows`, they need not be strict.
 #[derive(Drop)]
 struct OfferedRows {
     size: u8,
@@ -26,7 +31,7 @@ struct OfferedRows {
 impl OfferedRows {
     // Whether the row includes the row of each element that it has.
     fn closed(&self, row: u32) -> bool
-        ensures { Decides result ((y : ℕ) → y < self.now.size → TransitiveAt self.now.rows row y) }
+        ensures { IsTrue result ↔ ((y : ℕ) → y < self.now.size → TransitiveAt self.now.rows row y) }
     {
         (0..self.size).all(|y| !contains(row, y) || includes(row, self.rows[y as usize]))
     }
@@ -34,7 +39,7 @@ impl OfferedRows {
     // Whether row x is lawful.
     fn lawful_row(&self, x: u8) -> bool
         requires { x < self.now.size }
-        ensures { Decides result (LawfulRow (by_rows self.now.size self.now.rows) x) }
+        ensures { IsTrue result ↔ LawfulRow (by_rows self.now.size self.now.rows) x }
     {
         let row = self.rows[x as usize];
         within(row, self.size) && !contains(row, x) && self.closed(row)
@@ -53,7 +58,7 @@ fn rows_of(bytes: &[u8]) -> [u32; 32]
     requires { length bytes.now ≤ 128 }
     ensures { Tabulates (order_of_pairs bytes.now).better result }
 {
-    std::array::from_fn(|x| word_at(bytes, 4 * x as u16))
+    std::array::from_fn(|x| u32_at(bytes, ROW * x))
 }
 
 impl Encoding for ByPairs {
@@ -67,11 +72,11 @@ impl Encoding for ByPairs {
 
     fn read(bytes: &[u8]) -> Result<Rows, PairsFault> {
         let n = bytes.len();
-        if n % 4 != 0 || n < 4 || n > 128 {
+        if n % ROW != 0 || n < ROW || n > LONGEST {
             return Err(PairsFault::BadLength(n));
         }
         let offer = OfferedRows {
-            size: (n / 4) as u8,
+            size: (n / ROW) as u8,
             rows: rows_of(bytes),
         };
         if let Some(x) = offer.first_unlawful() {

@@ -1,20 +1,20 @@
 // An order by ranks: the bytes have a rank for each element, and a lower rank is better.
 ghost use Rattle.std.specs.Prelude.{◌≡◌, ◌≤◌, length, nat_lt};
-ghost use Rattle.orders.specs.Bytes.{byte};
+ghost use Rattle.logic.specs.Bytes.{byte};
 ghost use Rattle.orders.specs.Masks.{Tabulates};
 ghost use Rattle.orders.specs.RankLaws.{order_of_ranks, RanksLawful};
 ghost use Rattle.orders.specs.Answers.{RanksRefused};
 
-use crate::bytes::byte_at;
 use crate::faults::RanksFault;
 use crate::filled::{Encoding, Filled};
-use crate::masks::{Property, mask_of};
+use crate::masks::{ELEMENTS, Property, mask_of};
 use crate::rows::Rows;
+use logic::bytes::byte_at;
 use logic::refusal::BadLength;
 
-const LIMIT: usize = 32;
+const LIMIT: usize = ELEMENTS as usize;
 
-// One byte for each element, 1 to 32 of them: its rank.
+// The encoding by ranks: one byte for each of 1 to 32 elements, its rank.
 pub struct ByRanks;
 
 pub type Ranks = Filled<ByRanks>;

@@ -1,5 +1,5 @@
-// A strict order by rows: row x is the mask of the elements better than x. Each kind of order holds one. The size
-// stands beside the masks, since they have fixed memory.
+// A strict order by rows: row x is the mask of the elements better than x. There is memory for 32 rows, of which
+// the first `size` are used.
 ghost use Rattle.std.specs.Prelude.{◌≡◌, slice_index};
 ghost use Rattle.orders.specs.Masks.{Strict, by_rows, alone};
 

@@ -4,6 +4,8 @@
 #[cfg(test)]
 mod answers;
 #[cfg(test)]
+mod any;
+#[cfg(test)]
 mod pairs;
 #[cfg(test)]
 mod ranks;

@@ -17,7 +17,8 @@ use Rattle.sealed.specs.declared.faults.CheckFault.{CheckFault}
 use Rattle.sealed.specs.declared.faults.CheckFault.TheVariants as checks
 use Rattle.sealed.specs.Writing.{records_length, Sealed}
 use Rattle.sealed.specs.Faults.{check_fault_number}
-use Rattle.sealed.specs.Reading.{byte_at, sealed_book}
+use Rattle.logic.specs.Bytes.{byte}
+use Rattle.sealed.specs.Reading.{sealed_book}
 use Rattle.sealed.specs.Checks.{AllGranted, Passes, FirstRefused, Bad, CheckAnswer}
 use Rattle.sealed.specs.Frames.{EndsInTrailer}
 use Rattle.sealed.specs.Steps.{PlainMarks, NodesGranted, NodeFirstRefused, EntriesChecked, FrameChecked}
@@ -99,7 +100,7 @@ module _ (bs : List ℕ) (f : Frame) (is : f.bytes.now ≡ bs) (t : EndsInTraile
   bad_entry good first = subst (λ b. Bad b fault) is (Bad.entry t.fits t.nodes_are t.entries_are good first)
 
 -- what check answers, by the frame that was checked
-pub check_answer : (Q : Frame → Unit {0} → Type 0) (bs : List ℕ) (r : Result Frame CheckFault) (answer : Result (Unit {0}) CheckFault) → ((k : ℕ) → byte_at bs k < 256) → FrameChecked bs r → MatchResult r (λ f. IsOkAnd answer (Q f)) (λ fault. answer ≡ Err fault) → CheckAnswer bs answer
+pub check_answer : (Q : Frame → Unit {0} → Type 0) (bs : List ℕ) (r : Result Frame CheckFault) (answer : Result (Unit {0}) CheckFault) → ((k : ℕ) → byte bs k < 256) → FrameChecked bs r → MatchResult r (λ f. IsOkAnd answer (Q f)) (λ fault. answer ≡ Err fault) → CheckAnswer bs answer
 check_answer Q bs (Ok f) (Ok u) bytes h m =
     let p = subst (λ b. Passes b f.counts.nodes f.counts.entries) h.0 h.1 in
     (sealed_book bs f.counts.nodes f.counts.entries, passed_sealed bs f.counts.nodes f.counts.entries p bytes)

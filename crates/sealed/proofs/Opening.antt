@@ -7,7 +7,8 @@ use Rattle.logic.proofs.Lawfulness.{lawful_empty}
 use Rattle.sealed.specs.declared.frame.Frame.{Frame}
 use Rattle.sealed.specs.declared.faults.CheckFault.{CheckFault}
 use Rattle.sealed.specs.Writing.{book_bytes, Sealed, SealedAs}
-use Rattle.sealed.specs.Reading.{byte_at, sealed_book, node_start, entry_start}
+use Rattle.logic.specs.Bytes.{byte}
+use Rattle.sealed.specs.Reading.{sealed_book, node_start, entry_start}
 use Rattle.sealed.specs.Checks.{Passes, Opened, RoundTrip}
 use Rattle.sealed.specs.Frames.{book_in}
 use Rattle.sealed.specs.Steps.{PassesOrEmpty, FrameChecked}
@@ -58,7 +59,7 @@ module _ (f : Frame) (h : Counted f) where
   pub counted_lawful : Lawful (book_in f)
   counted_lawful = stood_lawful f.bytes.now f.counts.nodes f.counts.entries stood
 
-  pub opened : ((k : ℕ) → byte_at f.bytes.now k < 256) → Opened f.bytes.now (book_in f)
+  pub opened : ((k : ℕ) → byte f.bytes.now k < 256) → Opened f.bytes.now (book_in f)
   opened bytes = elim h [
     | inl p ↦ record { sealed = passed_reads f.bytes.now f.counts.nodes f.counts.entries p; unsealed = λ none. absurd (none (book_in f, passed_sealed f.bytes.now f.counts.nodes f.counts.entries p bytes)) }
     | inr z ↦ record { sealed = λ bk is. absurd (z.2 (bk, is)); unsealed = λ _. (λ i. sealed_book f.bytes.now (z.0 i) (z.1 i)) ∙ no_records f.bytes.now }

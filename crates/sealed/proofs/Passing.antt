@@ -10,9 +10,10 @@ use Rattle.logic.specs.Lawful.{Lawful}
 use Rattle.logic.proofs.Lawfulness.{lawful_empty}
 use Rattle.logic.proofs.Refusing.{node_granted, entry_granted_stored}
 use Rattle.sealed.specs.Writing.{node_bytes, entry_bytes, u16_bytes, u32_bytes, records_length, trailer_bytes, book_bytes, SealedAs}
-use Rattle.sealed.specs.Reading.{byte_at, u16_at, u32_at, raw_node_at, raw_entry_at, stored_at_offset, nodes_in, entries_in, node_total, entry_total, distance, has_trailer, node_start, entry_start, sealed_book, node_refusal_in, entry_refusal_in}
+use Rattle.logic.specs.Bytes.{byte, u16_at, u32_at}
+use Rattle.sealed.specs.Reading.{raw_node_at, raw_entry_at, stored_at_offset, nodes_in, entries_in, node_total, entry_total, distance, has_trailer, node_start, entry_start, sealed_book, node_refusal_in, entry_refusal_in}
 use Rattle.sealed.specs.Checks.{AllGranted, Passes}
-use Rattle.sealed.proofs.Numbers.{bytes_from}
+use Rattle.sealed.proofs.Numbers.{u32_halves, bytes_from}
 use Rattle.sealed.proofs.Records.{two_bytes, node_writes, entry_writes}
 use Rattle.sealed.proofs.Rows.{nodes_in_none, nodes_in_more, length-nodes_in, entries_in_none, entries_in_more, length-entries_in}
 
@@ -65,7 +66,7 @@ module _ (bs : List ℕ) (from : ℕ) where
       let grown = (node_granted (only (nodes_in bs from i)) (raw_node_at bs (from + 5 * i)) (g i (omega arith))).1 before in
       subst (λ ns. Lawful (only ns)) (sym (nodes_in_more bs from i) ∙ ap (nodes_in bs from) (add-one i)) grown
 
-  pub nodes_written : ((k : ℕ) → byte_at bs k < 256) → (n : ℕ) → AllGranted (node_refusal_in bs from) n → from + 5 * n ≤ length bs → take (5 * n) (drop from bs) ≡ flat_map node_bytes (nodes_in bs from n)
+  pub nodes_written : ((k : ℕ) → byte bs k < 256) → (n : ℕ) → AllGranted (node_refusal_in bs from) n → from + 5 * n ≤ length bs → take (5 * n) (drop from bs) ≡ flat_map node_bytes (nodes_in bs from n)
   nodes_written bytes n g within =
       records_written node_bytes 5 (nodes_in bs from) (λ i. node_of (raw_node_at bs (from + 5 * i))) (nodes_in_none bs from) (nodes_in_more bs from) bs from n
       (λ i h. node_writes bs bytes (from + 5 * i) _ (node_granted (only (nodes_in bs from i)) (raw_node_at bs (from + 5 * i)) (g i h)).0 (omega arith))
@@ -79,26 +80,27 @@ module _ (bs : List ℕ) (from : ℕ) (ns : List Node) where
   entries_lawful base zero g = subst (λ ls. Lawful (record { nodes = ns; entries = ls })) (sym (entries_in_none bs from)) base
   entries_lawful base (suc j) g =
       let before = entries_lawful base j (λ k h. g k (omega arith)) in
-      let grown = (entry_granted_stored (over j) (raw_entry_at bs (from + 7 * j)) (ltb (byte_at bs (from + 7 * j)) 16) (g j (omega arith))).1 before in
+      let grown = (entry_granted_stored (over j) (raw_entry_at bs (from + 7 * j)) (ltb (byte bs (from + 7 * j)) 16) (g j (omega arith))).1 before in
       subst (λ ls. Lawful (record { nodes = ns; entries = ls })) (sym (entries_in_more bs from j) ∙ ap (entries_in bs from) (add-one j)) grown
 
-  pub entries_written : ((k : ℕ) → byte_at bs k < 256) → (m : ℕ) → AllGranted (entry_refusal_in bs ns from) m → from + 7 * m ≤ length bs → take (7 * m) (drop from bs) ≡ flat_map entry_bytes (entries_in bs from m)
+  pub entries_written : ((k : ℕ) → byte bs k < 256) → (m : ℕ) → AllGranted (entry_refusal_in bs ns from) m → from + 7 * m ≤ length bs → take (7 * m) (drop from bs) ≡ flat_map entry_bytes (entries_in bs from m)
   entries_written bytes m g within =
       records_written entry_bytes 7 (entries_in bs from) (λ j. stored_at_offset bs (from + 7 * j)) (entries_in_none bs from) (entries_in_more bs from) bs from m
-      (λ j h. entry_writes bs bytes (from + 7 * j) _ (entry_granted_stored (over j) (raw_entry_at bs (from + 7 * j)) (ltb (byte_at bs (from + 7 * j)) 16) (g j h)).0 (omega arith))
+      (λ j h. entry_writes bs bytes (from + 7 * j) _ (entry_granted_stored (over j) (raw_entry_at bs (from + 7 * j)) (ltb (byte bs (from + 7 * j)) 16) (g j h)).0 (omega arith))
 
 pub passed_lawful : (bs : List ℕ) (n m : ℕ) → Passes bs n m → Lawful (sealed_book bs n m)
 passed_lawful bs n m p =
     entries_lawful bs (entry_start bs m) (nodes_in bs (node_start bs n m) n) (nodes_lawful bs (node_start bs n m) n p.nodes) m p.entries
 
 -- the eight bytes of a trailer
-trailer_from : (bs : List ℕ) → ((k : ℕ) → byte_at bs k < 256) → (from n m d : ℕ) → from + 8 ≡ length bs → u16_at bs from ≡ n → u16_at bs (from + 2) ≡ m → u32_at bs (from + 4) ≡ d → drop from bs ≡ u16_bytes n ++ (u16_bytes m ++ u32_bytes d)
+trailer_from : (bs : List ℕ) → ((k : ℕ) → byte bs k < 256) → (from n m d : ℕ) → from + 8 ≡ length bs → u16_at bs from ≡ n → u16_at bs (from + 2) ≡ m → u32_at bs (from + 4) ≡ d → drop from bs ≡ u16_bytes n ++ (u16_bytes m ++ u32_bytes d)
 trailer_from bs bytes from n m d end nodes entries far =
-    let two : ℕ → List ℕ = λ k. map (byte_at bs) (k ∷ (k + 1) ∷ []) in
+    let two : ℕ → List ℕ = λ k. map (byte bs) (k ∷ (k + 1) ∷ []) in
     let sum : u16_at bs (from + 4) < 65536 = omega (arith, bytes (from + 4), bytes (from + 4 + 1)) in
     let sixth : from + 4 + 2 ≡ from + 6 = omega arith in
-    let low : u16_at bs (from + 4) ≡ d % 65536 = omega (arith, sum, far) in
-    let high : u16_at bs (from + 6) ≡ d / 65536 = ap (u16_at bs) (sym sixth) ∙ omega (arith, sum, far) in
+    let halves = sym (u32_halves bs (from + 4)) ∙ far in
+    let low : u16_at bs (from + 4) ≡ d % 65536 = omega (arith, sum, halves) in
+    let high : u16_at bs (from + 6) ≡ d / 65536 = ap (u16_at bs) (sym sixth) ∙ omega (arith, sum, halves) in
     let p₂ : from + 1 + 1 ≡ from + 2 = omega arith in
     let p₄ : from + 1 + 1 + 1 + 1 ≡ from + 4 = omega arith in
     let p₆ : from + 1 + 1 + 1 + 1 + 1 + 1 ≡ from + 6 = omega arith in
@@ -107,7 +109,7 @@ trailer_from bs bytes from n m d end nodes entries far =
     ∙ (λ i. two from ++ (two (p₂ i) ++ (two (p₄ i) ++ two (p₆ i))))
     ∙ (λ i. two_bytes bs bytes from from n nodes i ++ (two_bytes bs bytes from (from + 2) m entries i ++ (two_bytes bs bytes from (from + 4) (d % 65536) low i ++ two_bytes bs bytes from (from + 6) (d / 65536) high i)))
 
-pub passed_sealed : (bs : List ℕ) (n m : ℕ) → Passes bs n m → ((k : ℕ) → byte_at bs k < 256) → SealedAs bs (sealed_book bs n m)
+pub passed_sealed : (bs : List ℕ) (n m : ℕ) → Passes bs n m → ((k : ℕ) → byte bs k < 256) → SealedAs bs (sealed_book bs n m)
 unfolding book_bytes node_total entry_total distance
 passed_sealed bs n m p bytes =
     let f = frame_parts bs n m p.fits p.nodes_are p.entries_are in

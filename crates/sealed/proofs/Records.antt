@@ -9,13 +9,14 @@ use Rattle.logic.specs.declared.records.StoredEntry.{StoredEntry}
 use Rattle.logic.specs.Written.{node_kind, node_a, node_b, entry_kind, entry_a, entry_b, entry_c, WritesNode, WritesEntry}
 use Rattle.logic.specs.Lawful.{is_entry}
 use Rattle.sealed.specs.Writing.{u16_bytes, node_bytes, entry_bytes}
-use Rattle.sealed.specs.Reading.{byte_at, u16_at, raw_node_at, raw_entry_at}
+use Rattle.logic.specs.Bytes.{byte, u16_at}
+use Rattle.sealed.specs.Reading.{raw_node_at, raw_entry_at}
 use Rattle.sealed.proofs.Numbers.{byte_written, u16_from, low_byte, high_byte, bytes_from}
 
 module _ (bs rest : List ℕ) (from : ℕ) where
   pub node_reads : (n : Node) → drop from bs ≡ node_bytes n ++ rest → WritesNode (raw_node_at bs from) n
   node_reads n is =
-      let at : (k j : ℕ) → from + k ≡ j → byte_at bs j ≡ byte_at (node_bytes n ++ rest) k = λ k j e. byte_written bs (node_bytes n ++ rest) from k j e is in
+      let at : (k j : ℕ) → from + k ≡ j → byte bs j ≡ byte (node_bytes n ++ rest) k = λ k j e. byte_written bs (node_bytes n ++ rest) from k j e is in
       record {
         kind = at 0 from (omega arith);
         a = u16_from _ _ (node_a n) (at 1 (from + 1) refl) (at 2 (from + 1 + 1) (omega arith));
@@ -33,11 +34,11 @@ module _ (bs rest : List ℕ) (from : ℕ) where
   kind_and_mark kind true h byte e = (grind (arith, nat_tests), grind (arith, nat_tests))
   kind_and_mark kind false h byte e = (grind (arith, nat_tests), grind (arith, nat_tests))
 
-  pub entry_reads : (l : StoredEntry) → is_entry l.entry ≡ true → drop from bs ≡ entry_bytes l ++ rest → WritesEntry (raw_entry_at bs from) l.entry × (ltb (byte_at bs from) 16 ≡ l.live)
+  pub entry_reads : (l : StoredEntry) → is_entry l.entry ≡ true → drop from bs ≡ entry_bytes l ++ rest → WritesEntry (raw_entry_at bs from) l.entry × (ltb (byte bs from) 16 ≡ l.live)
   entry_reads l known is =
       let e = l.entry in
-      let at : (k j : ℕ) → from + k ≡ j → byte_at bs j ≡ byte_at (entry_bytes l ++ rest) k = λ k j e. byte_written bs (entry_bytes l ++ rest) from k j e is in
-      let km = kind_and_mark (entry_kind e) l.live (small_kind e known) (byte_at bs from) (at 0 from (omega arith)) in (
+      let at : (k j : ℕ) → from + k ≡ j → byte bs j ≡ byte (entry_bytes l ++ rest) k = λ k j e. byte_written bs (entry_bytes l ++ rest) from k j e is in
+      let km = kind_and_mark (entry_kind e) l.live (small_kind e known) (byte bs from) (at 0 from (omega arith)) in (
         record {
           kind = km.0;
           a = u16_from _ _ (entry_a e) (at 1 (from + 1) refl) (at 2 (from + 1 + 1) (omega arith));
@@ -47,17 +48,17 @@ module _ (bs rest : List ℕ) (from : ℕ) where
         km.1,
       )
 
-module _ (bs : List ℕ) (bytes : (k : ℕ) → byte_at bs k < 256) (from : ℕ) where
+module _ (bs : List ℕ) (bytes : (k : ℕ) → byte bs k < 256) (from : ℕ) where
   -- the two bytes of a number
-  pub two_bytes : (j n : ℕ) → u16_at bs j ≡ n → map (byte_at bs) (j ∷ (j + 1) ∷ []) ≡ u16_bytes n
+  pub two_bytes : (j n : ℕ) → u16_at bs j ≡ n → map (byte bs) (j ∷ (j + 1) ∷ []) ≡ u16_bytes n
   two_bytes j n is =
-      let low : byte_at bs j ≡ n % 256 = sym (low_byte (byte_at bs j) (byte_at bs (j + 1)) (bytes j)) ∙ ap (λ x. x % 256) is in
-      let high : byte_at bs (j + 1) ≡ n / 256 = sym (high_byte (byte_at bs j) (byte_at bs (j + 1)) (bytes j)) ∙ ap (λ x. x / 256) is in
+      let low : byte bs j ≡ n % 256 = sym (low_byte (byte bs j) (byte bs (j + 1)) (bytes j)) ∙ ap (λ x. x % 256) is in
+      let high : byte bs (j + 1) ≡ n / 256 = sym (high_byte (byte bs j) (byte bs (j + 1)) (bytes j)) ∙ ap (λ x. x / 256) is in
       λ i. low i ∷ high i ∷ []
 
   pub node_writes : (n : Node) → WritesNode (raw_node_at bs from) n → from + 5 ≤ length bs → take 5 (drop from bs) ≡ node_bytes n
   node_writes n w within =
-      let two : ℕ → List ℕ = λ k. map (byte_at bs) (k ∷ (k + 1) ∷ []) in
+      let two : ℕ → List ℕ = λ k. map (byte bs) (k ∷ (k + 1) ∷ []) in
       let a = two_bytes (from + 1) (node_a n) w.a in
       let b = two_bytes (from + 3) (node_b n) w.b in
       let third : from + 1 + 1 + 1 ≡ from + 3 = omega arith in
@@ -68,10 +69,10 @@ module _ (bs : List ℕ) (bytes : (k : ℕ) → byte_at bs k < 256) (from : ℕ)
   whole_kind : (byte kind : ℕ) → cond (ltb byte 16) byte (byte - 16) ≡ kind → byte ≡ kind + cond (ltb byte 16) 0 16
   whole_kind byte kind is = grind (arith, nat_tests)
 
-  pub entry_writes : (e : Entry) → WritesEntry (raw_entry_at bs from) e → from + 7 ≤ length bs → take 7 (drop from bs) ≡ entry_bytes (record { entry = e; live = ltb (byte_at bs from) 16 })
+  pub entry_writes : (e : Entry) → WritesEntry (raw_entry_at bs from) e → from + 7 ≤ length bs → take 7 (drop from bs) ≡ entry_bytes (record { entry = e; live = ltb (byte bs from) 16 })
   entry_writes e w within =
-      let kind = whole_kind (byte_at bs from) (entry_kind e) w.kind in
-      let two : ℕ → List ℕ = λ k. map (byte_at bs) (k ∷ (k + 1) ∷ []) in
+      let kind = whole_kind (byte bs from) (entry_kind e) w.kind in
+      let two : ℕ → List ℕ = λ k. map (byte bs) (k ∷ (k + 1) ∷ []) in
       let a = two_bytes (from + 1) (entry_a e) w.a in
       let b = two_bytes (from + 3) (entry_b e) w.b in
       let c = two_bytes (from + 5) (entry_c e) w.c in
@@ -79,4 +80,4 @@ module _ (bs : List ℕ) (bytes : (k : ℕ) → byte_at bs k < 256) (from : ℕ)
       let fifth : from + 1 + 1 + 1 + 1 + 1 ≡ from + 5 = omega arith in
       bytes_from bs from 7 within
       ∙ (λ i. kind i ∷ (two (from + 1) ++ (two (third i) ++ two (fifth i))))
-      ∙ (λ i. (entry_kind e + cond (ltb (byte_at bs from) 16) 0 16) ∷ (a i ++ (b i ++ c i)))
+      ∙ (λ i. (entry_kind e + cond (ltb (byte bs from) 16) 0 16) ∷ (a i ++ (b i ++ c i)))

@@ -17,9 +17,10 @@ use Rattle.logic.specs.Refusals.{node_refusal, entry_refusal}
 use Rattle.logic.proofs.Lawfulness.{node_parts, entry_parts, lawful_nodes_front, lawful_entries_front}
 use Rattle.logic.proofs.Refusing.{node_read, node_taken, entry_read, entry_taken}
 use Rattle.sealed.specs.Writing.{node_bytes, entry_bytes, records_length, trailer_bytes, book_bytes, SealedAs}
-use Rattle.sealed.specs.Reading.{byte_at, raw_node_at, raw_entry_at, stored_at_offset, nodes_in, entries_in, node_total, entry_total, distance, has_trailer, node_start, entry_start, sealed_book, node_refusal_in, entry_refusal_in}
+use Rattle.logic.specs.Bytes.{byte}
+use Rattle.sealed.specs.Reading.{raw_node_at, raw_entry_at, stored_at_offset, nodes_in, entries_in, node_total, entry_total, distance, has_trailer, node_start, entry_start, sealed_book, node_refusal_in, entry_refusal_in}
 use Rattle.sealed.specs.Checks.{AllGranted, Passes}
-use Rattle.sealed.proofs.Numbers.{byte_written, u16_from, length_joined, drop_joined}
+use Rattle.sealed.proofs.Numbers.{u32_halves, byte_written, u16_from, length_joined, drop_joined}
 use Rattle.sealed.proofs.Records.{node_reads, entry_reads}
 use Rattle.sealed.proofs.Rows.{length-nodes_in, get_or-nodes_in, length-entries_in, get_or-entries_in}
 
@@ -94,7 +95,7 @@ module _ (bs : List ℕ) (bk : Book) (sealed : SealedAs bs bk) where
       ∙ drop_at (flat_map entry_bytes bk.entries) (trailer_bytes n m) (7 * m) (length_joined entry_bytes 7 (λ _. refl) bk.entries)
 
   -- the trailer reads as it was written
-  trailer_byte : (k j : ℕ) → start + 5 * n + 7 * m + k ≡ j → byte_at bs j ≡ byte_at (trailer_bytes n m) k
+  trailer_byte : (k j : ℕ) → start + 5 * n + 7 * m + k ≡ j → byte bs j ≡ byte (trailer_bytes n m) k
   trailer_byte k j e = byte_written bs (trailer_bytes n m) (start + 5 * n + 7 * m) k j e from_trailer
 
   nodes_read : node_total bs ≡ n
@@ -111,7 +112,7 @@ module _ (bs : List ℕ) (bk : Book) (sealed : SealedAs bs bk) where
       let d = records_length n m in
       let low = u16_from _ _ (d % 65536) (trailer_byte 4 (length bs - 4) (omega (arith, long))) (trailer_byte 5 (length bs - 4 + 1) (omega (arith, long))) in
       let high = u16_from _ _ (d / 65536) (trailer_byte 6 (length bs - 4 + 2) (omega (arith, long))) (trailer_byte 7 (length bs - 4 + 2 + 1) (omega (arith, long))) in
-      (λ i. low i + 65536 * high i) ∙ mod-add-div d 65536
+      u32_halves bs (length bs - 4) ∙ (λ i. low i + 65536 * high i) ∙ mod-add-div d 65536
 
   frame_fits : has_trailer bs ≡ true
   frame_fits =
@@ -165,14 +166,14 @@ module _ (bs : List ℕ) (bk : Book) (sealed : SealedAs bs bk) where
   known_entry : (j : ℕ) → j < m → is_entry (stored_at bk j).entry ≡ true
   known_entry j h = (entry_parts n (stored_at bk j).entry (All-get_or (λ l. entry_well_formed n l.entry ≡ true) bk.entries j no_stored_entry h sealed.lawful.well_formed.entries)).0
 
-  entry_is : (j : ℕ) → j < m → WritesEntry (raw_entry_at bs (entry_start bs m + 7 * j)) (stored_at bk j).entry × (ltb (byte_at bs (entry_start bs m + 7 * j)) 16 ≡ (stored_at bk j).live)
+  entry_is : (j : ℕ) → j < m → WritesEntry (raw_entry_at bs (entry_start bs m + 7 * j)) (stored_at bk j).entry × (ltb (byte bs (entry_start bs m + 7 * j)) 16 ≡ (stored_at bk j).live)
   entry_is j h =
       let ls = bk.entries in
       let l = stored_at bk j in
       let rest = flat_map entry_bytes (drop (j + 1) ls) in
       let here : drop (start + 5 * n + 7 * j) bs ≡ entry_bytes l ++ (rest ++ trailer_bytes n m) =
       from_entry j (omega arith) ∙ ap (λ xs. flat_map entry_bytes xs ++ trailer_bytes n m) (drop_more ls j no_stored_entry h) ∙ append_assoc (entry_bytes l) rest (trailer_bytes n m) in
-      subst (λ s. WritesEntry (raw_entry_at bs (s + 7 * j)) l.entry × (ltb (byte_at bs (s + 7 * j)) 16 ≡ l.live)) (sym entry_starts) (entry_reads bs (rest ++ trailer_bytes n m) (start + 5 * n + 7 * j) l (known_entry j h) here)
+      subst (λ s. WritesEntry (raw_entry_at bs (s + 7 * j)) l.entry × (ltb (byte bs (s + 7 * j)) 16 ≡ l.live)) (sym entry_starts) (entry_reads bs (rest ++ trailer_bytes n m) (start + 5 * n + 7 * j) l (known_entry j h) here)
 
   entry_reads_back : (j : ℕ) → j < m → stored_at_offset bs (entry_start bs m + 7 * j) ≡ stored_at bk j
   entry_reads_back j h =

@@ -1,5 +1,6 @@
 -- What check and seal answer.
--- Passes: the trailer fits and every record is granted in its turn. CheckAnswer, SealAnswer.
+-- Passes: the trailer fits and every record is granted in its turn. CheckAnswer, SealAnswer: what the calls answer.
+-- Opened: what opening bytes gives. RoundTrip: what was written reads back.
 -- Assumes nothing.
 use Rattle.std.specs.Prelude.{◌≡◌, ℕ, ◌+◌, ◌*◌, ◌<◌, true, false, List, [], ◌++◌, length, drop, Ok, Err, Result}
 use Rattle.logic.specs.declared.refusal.BadLength.{BadLength}
@@ -7,7 +8,7 @@ use Rattle.logic.specs.Lengths.{bad_length_number, bad_length_place}
 use Rattle.logic.specs.Books.{Book, empty}
 use Rattle.sealed.specs.declared.faults.CheckFault.{CheckFault}
 use Rattle.sealed.specs.Faults.{check_fault_number, check_fault_place}
-use Rattle.sealed.specs.Writing.{book_bytes, Sealed, SealedAs}
+use Rattle.sealed.specs.Writing.{node_size, entry_size, book_bytes, Sealed, SealedAs}
 use Rattle.sealed.specs.Reading.{has_trailer, node_total, entry_total, node_start, entry_start, nodes_in, node_refusal_in, entry_refusal_in}
 
 -- each of the first n records is granted
@@ -34,10 +35,10 @@ pub record FirstRefused (refusal : ℕ → ℕ) (n from size : ℕ) (f : CheckFa
 pub data Bad (bs : List ℕ) (f : CheckFault) : Type 0 where
   frame : has_trailer bs ≡ false → check_fault_number f ≡ 19 → check_fault_place f ≡ length bs → Bad bs f
   node : {n m : ℕ} → has_trailer bs ≡ true → n ≡ node_total bs → m ≡ entry_total bs →
-      FirstRefused (node_refusal_in bs (node_start bs n m)) n (node_start bs n m) 5 f → Bad bs f
+      FirstRefused (node_refusal_in bs (node_start bs n m)) n (node_start bs n m) node_size f → Bad bs f
   entry : {n m : ℕ} → has_trailer bs ≡ true → n ≡ node_total bs → m ≡ entry_total bs →
       AllGranted (node_refusal_in bs (node_start bs n m)) n →
-      FirstRefused (entry_refusal_in bs (nodes_in bs (node_start bs n m) n) (entry_start bs m)) m (entry_start bs m) 7 f → Bad bs f
+      FirstRefused (entry_refusal_in bs (nodes_in bs (node_start bs n m) n) (entry_start bs m)) m (entry_start bs m) entry_size f → Bad bs f
 
 -- passed: the bytes are a sealed book; refused: they are none, and this is the first thing wrong
 abbrev pub CheckAnswer : List ℕ → Result (Unit {0}) CheckFault → Type 0
@@ -51,7 +52,7 @@ SealAnswer bk out out' (Ok n) = (n ≡ length (book_bytes bk)) × (out' ≡ book
 SealAnswer bk out out' (Err f) =
     (length out < length (book_bytes bk)) × (bad_length_number f ≡ 20) × (bad_length_place f ≡ length out) × (out' ≡ out)
 
--- what a book that was sealed in these bytes is when they are opened, and what no sealed book is
+-- opening the bytes of a sealed book gives that book, and opening other bytes gives the empty book
 pub record Opened (bs : List ℕ) (bk : Book) : Type 0 where
   pub sealed : (sealed : Book) → SealedAs bs sealed → bk ≡ sealed
   pub unsealed : (Sealed bs → ⊥) → bk ≡ empty

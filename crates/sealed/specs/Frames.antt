@@ -1,18 +1,19 @@
--- What stands in a frame: bytes with the counts of the records that stand in them, right before a trailer.
+-- The records of a frame: bytes with the counts of the records that stand in them, right before a trailer.
 -- Assumes nothing.
 use Rattle.std.specs.Prelude.{◌≡◌, ℕ, ◌+◌, ◌*◌, true, List}
 use Rattle.logic.specs.declared.records.Node.{Node}
 use Rattle.logic.specs.declared.records.StoredEntry.{StoredEntry}
 use Rattle.logic.specs.Books.{Book}
 use Rattle.sealed.specs.declared.frame.Frame.{Frame}
+use Rattle.sealed.specs.Writing.{node_size, entry_size}
 use Rattle.sealed.specs.Reading.{node_start, entry_start, nodes_in, entries_in, node_total, entry_total, has_trailer, sealed_book}
 
 -- where node i begins, and where entry j does
 abbrev pub node_place : Frame → ℕ → ℕ
-node_place f i = node_start f.bytes.now f.counts.nodes f.counts.entries + 5 * i
+node_place f i = node_start f.bytes.now f.counts.nodes f.counts.entries + node_size * i
 
 abbrev pub entry_place : Frame → ℕ → ℕ
-entry_place f j = entry_start f.bytes.now f.counts.entries + 7 * j
+entry_place f j = entry_start f.bytes.now f.counts.entries + entry_size * j
 
 -- the first i nodes, and the first j entries
 abbrev pub first_nodes : Frame → ℕ → List Node

@@ -4,6 +4,8 @@ pub mod Writing
 pub mod Reading
 -- what stands in a frame
 pub mod Frames
+-- what a sealed book means
+pub mod SealedBooks
 -- the number and the place of each fault
 pub mod Faults
 -- what check and seal answer

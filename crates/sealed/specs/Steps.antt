@@ -1,4 +1,4 @@
--- What the steps of the check answer, and with which counts a sealed book stands.
+-- What the parts of the check answer, and the invariant of an opened book.
 -- NodeChecked, NodesGranted, NodeFirstRefused, EntryChecked, EntriesChecked: one record of a frame, and all of them.
 -- FrameChecked: the whole check. PassesOrEmpty: the invariant of an opened book.
 -- Assumes nothing.
@@ -9,11 +9,12 @@ use Rattle.logic.specs.Concepts.{of, read, concepts, plain}
 use Rattle.sealed.specs.declared.frame.Frame.{Frame}
 use Rattle.sealed.specs.declared.faults.CheckFault.{CheckFault}
 use Rattle.sealed.specs.Faults.{check_fault_number, check_fault_place}
+use Rattle.sealed.specs.Writing.{node_size, entry_size}
 use Rattle.sealed.specs.Reading.{raw_node_at, node_start, entry_start, node_refusal_in, entry_refusal_in}
 use Rattle.sealed.specs.Frames.{node_place, entry_place, first_nodes}
 use Rattle.sealed.specs.Checks.{AllGranted, Passes, FirstRefused, Bad}
 
--- what of each node is known to be plain; past the end it is
+-- the marks tell of each node whether it is plain; past the end they say yes
 abbrev pub PlainMarks : List Bool → List Node → Type 0
 PlainMarks marks ns = (k : ℕ) → slice_index_or marks k true ≡ plain (of (concepts ns) k)
 
@@ -40,12 +41,12 @@ abbrev pub NodesGranted : Frame → Type 0
 NodesGranted f = AllGranted (node_refused f) f.counts.nodes
 
 abbrev pub NodeFirstRefused : Frame → CheckFault → Type 0
-NodeFirstRefused f = FirstRefused (node_refused f) f.counts.nodes (node_start f.bytes.now f.counts.nodes f.counts.entries) 5
+NodeFirstRefused f = FirstRefused (node_refused f) f.counts.nodes (node_start f.bytes.now f.counts.nodes f.counts.entries) node_size
 
 -- all entries are granted, or one is the first that is refused
 abbrev pub EntriesChecked : Frame → Result (Unit {0}) CheckFault → Type 0
 EntriesChecked f (Ok u) = AllGranted (entry_refused f) f.counts.entries
-EntriesChecked f (Err fault) = FirstRefused (entry_refused f) f.counts.entries (entry_start f.bytes.now f.counts.entries) 7 fault
+EntriesChecked f (Err fault) = FirstRefused (entry_refused f) f.counts.entries (entry_start f.bytes.now f.counts.entries) entry_size fault
 
 -- the frame of bytes that pass, or the first thing wrong with them
 abbrev pub FrameChecked : List ℕ → Result Frame CheckFault → Type 0

@@ -1,7 +1,7 @@
 -- How a book is written as bytes, and which bytes are a sealed book.
 -- book_bytes: the nodes, the entries and a trailer. SealedAs: a note, and then the writing of a lawful book.
 -- Assumes nothing.
-use Rattle.std.specs.Prelude.{◌≡◌, ℕ, ◌+◌, ◌*◌, ◌/◌, ◌%◌, cond, List, [], ◌∷◌, ◌++◌, length}
+use Rattle.std.specs.Prelude.{◌≡◌, ℕ, ◌+◌, ◌*◌, ◌/◌, ◌%◌, if◌then◌else◌, List, [], ◌∷◌, ◌++◌, length}
 use Rattle.std.specs.List.{flat_map}
 use Rattle.logic.specs.declared.records.Node.{Node}
 use Rattle.logic.specs.declared.records.StoredEntry.{StoredEntry}
@@ -17,18 +17,32 @@ u16_bytes n = n % 256 ∷ n / 256 ∷ []
 abbrev pub u32_bytes : ℕ → List ℕ
 u32_bytes n = u16_bytes (n % 65536) ++ u16_bytes (n / 65536)
 
--- a node: 5 bytes
+-- the lengths of a node, of an entry and of the trailer, in bytes
+abbrev pub node_size : ℕ
+node_size = 5
+
+abbrev pub entry_size : ℕ
+entry_size = 7
+
+abbrev pub trailer_size : ℕ
+trailer_size = 8
+
+-- what is added to the kind of a struck entry
+abbrev pub struck_mark : ℕ
+struck_mark = 16
+
+-- a node: its kind and both operands
 abbrev pub node_bytes : Node → List ℕ
 node_bytes n = node_kind n ∷ (u16_bytes (node_a n) ++ u16_bytes (node_b n))
 
--- an entry: 7 bytes; 16 is added to the kind when it is struck
+-- an entry: its kind, marked if it is struck, and its operands
 abbrev pub entry_bytes : StoredEntry → List ℕ
 entry_bytes l =
-    (entry_kind l.entry + cond l.live 0 16) ∷ (u16_bytes (entry_a l.entry) ++ (u16_bytes (entry_b l.entry) ++ u16_bytes (entry_c l.entry)))
+    (entry_kind l.entry + (if l.live then 0 else struck_mark)) ∷ (u16_bytes (entry_a l.entry) ++ (u16_bytes (entry_b l.entry) ++ u16_bytes (entry_c l.entry)))
 
 -- how many bytes n nodes and m entries have
 abbrev pub records_length : ℕ → ℕ → ℕ
-records_length n m = 5 * n + 7 * m
+records_length n m = node_size * n + entry_size * m
 
 -- both counts, and the distance back from the trailer to the first node
 abbrev pub trailer_bytes : ℕ → ℕ → List ℕ

@@ -1,22 +1,11 @@
-// Numbers and records at an offset of the bytes, low byte first.
-ghost use Rattle.std.specs.Prelude.{◌≡◌, ◌+◌, ◌-◌, ◌<◌, ◌≤◌, ltb, length, if◌then◌else◌};
-ghost use Rattle.sealed.specs.Reading.{u16_at, u32_at, raw_node_at, raw_entry_at, stored_at_offset};
+// Records at an offset of the bytes.
+ghost use Rattle.std.specs.Prelude.{◌≡◌, ◌+◌, ◌-◌, ◌≤◌, nat_lt, length, if◌then◌else◌};
+ghost use Rattle.sealed.specs.Writing.{struck_mark};
+ghost use Rattle.sealed.specs.Reading.{raw_node_at, raw_entry_at, stored_at_offset};
 
+use crate::counts::STRUCK;
+use logic::bytes::u16_at;
 use logic::records::{Entry, RawEntry, RawNode, StoredEntry};
-
-pub(crate) fn u16_at(bytes: &[u8], i: usize) -> u16
-    requires { i + 1 < length bytes.now }
-    ensures { result ≡ u16_at bytes.now i }
-{
-    u16::from_le_bytes([bytes[i], bytes[i + 1]])
-}
-
-pub(crate) fn u32_at(bytes: &[u8], i: usize) -> u32
-    requires { i + 3 < length bytes.now }
-    ensures { result ≡ u32_at bytes.now i }
-{
-    u32::from_le_bytes([bytes[i], bytes[i + 1], bytes[i + 2], bytes[i + 3]])
-}
 
 // The node that is written at an offset.
 pub(crate) fn raw_node_at(bytes: &[u8], i: usize) -> RawNode
@@ -43,11 +32,11 @@ pub(crate) fn raw_entry_at(bytes: &[u8], i: usize) -> RawEntry
     }
 }
 
-// A struck entry has 16 more in its kind, since that is where the format keeps the mark.
+// The kind without the mark of a struck entry.
 fn entry_kind(byte: u8) -> u8
-    ensures { result ≡ (if ltb byte 16 then byte else byte - 16) }
+    ensures { result ≡ (if nat_lt byte struck_mark then byte else byte - struck_mark) }
 {
-    if byte < 16 { byte } else { byte - 16 }
+    if byte < STRUCK { byte } else { byte - STRUCK }
 }
 
 // The entry that is written at an offset, with its live mark.
@@ -57,6 +46,6 @@ pub(crate) fn stored_at(bytes: &[u8], i: usize) -> StoredEntry
 {
     StoredEntry {
         entry: Entry::from(raw_entry_at(bytes, i)),
-        live: bytes[i] < 16,
+        live: bytes[i] < STRUCK,
     }
 }

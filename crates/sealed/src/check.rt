@@ -1,4 +1,4 @@
-// The test of sealed bytes: the trailer, then the nodes and the entries in turn.
+// Checking sealed bytes: the trailer, then the nodes and the entries in turn.
 ghost use Rattle.std.specs.Prelude.{◌≡◌, ◌<◌, true, List, MatchResult, slice_index_or};
 ghost use Rattle.logic.specs.declared.records.Node.{Node};
 ghost use Rattle.logic.specs.Concepts.{concepts};
@@ -11,6 +11,7 @@ use crate::bytes::{raw_entry_at, raw_node_at};
 use crate::faults::CheckFault;
 use crate::frame::Frame;
 use books::offers::{PlainOperands, judge_entry, judge_node, plain_node, typical_node};
+use logic::limits::NODES;
 
 // The mark of a node; past the last mark a node is plain.
 fn mark_at(marks: &[bool], i: u16) -> bool
@@ -19,7 +20,7 @@ fn mark_at(marks: &[bool], i: u16) -> bool
     marks.get(i as usize).copied().unwrap_or(true)
 }
 
-// Whether the nodes a and b are plain, by the marks of all: what books::marked::sides asks a book.
+// Whether the nodes a and b are plain, by the marks of all.
 fn plain_operands(marks: &[bool], a: u16, b: u16) -> PlainOperands
     ensures { (ns : List Node) → PlainMarks marks.now ns → IsPlainnessOf (concepts ns) a b result }
 {
@@ -29,8 +30,8 @@ fn plain_operands(marks: &[bool], a: u16, b: u16) -> PlainOperands
     }
 }
 
-// Apart from the test of an entry, as the tests of both are.
-// Node i of a frame, by the marks of the nodes before it: its mark, or its fault.
+// Checks node i of a frame, by the marks of the nodes before it: its mark, or its fault. Separate from the entry
+// version because the tests differ.
 fn check_node(frame: &Frame, i: u16, marks: &[bool]) -> Result<bool, CheckFault>
     requires within { i < frame.now.counts.nodes }
     requires marked { PlainMarks marks.now (first_nodes frame.now i) }
@@ -49,7 +50,7 @@ fn check_node(frame: &Frame, i: u16, marks: &[bool]) -> Result<bool, CheckFault>
 #[derive(Drop)]
 struct Marked<'a> {
     frame: Frame<'a>,
-    marks: [bool; 512],
+    marks: [bool; NODES as usize],
     ghost granted: { NodesGranted frame },
     ghost marked: { PlainMarks marks (first_nodes frame frame.counts.nodes) },
 }
@@ -58,8 +59,7 @@ struct Marked<'a> {
 fn check_nodes<'a>(frame: Frame<'a>) -> Result<Marked<'a>, CheckFault>
     ensures { MatchResult result (λ m. m.frame ≡ frame.entry) (λ fault. NodeFirstRefused frame.entry fault) }
 {
-    // fixed memory, and by number: a record is read at its place, and the first refused ends the check
-    let mut marks = [true; 512];
+    let mut marks = [true; NODES as usize];
     for i in 0..frame.counts.nodes {
         marks[i as usize] = check_node(&frame, i, &marks)?;
     }
@@ -67,7 +67,7 @@ fn check_nodes<'a>(frame: Frame<'a>) -> Result<Marked<'a>, CheckFault>
 }
 
 impl<'a> Marked<'a> {
-    // Entry j, over these nodes.
+    // Checks entry j, over these nodes.
     fn check_entry(&self, j: u16) -> Result<(), CheckFault>
         requires { j < self.now.frame.counts.entries }
         ensures { EntryChecked self.now.frame j result }
@@ -81,11 +81,10 @@ impl<'a> Marked<'a> {
         Ok(())
     }
 
-    // The entries, over these nodes.
+    // Checks all entries, over these nodes.
     fn check_entries(&self) -> Result<(), CheckFault>
         ensures { EntriesChecked self.now.frame result }
     {
-        // tried: `try_for_each`, which takes a lemma of sixty lines where the loop takes an invariant
         for j in 0..self.frame.counts.entries {
             self.check_entry(j)?;
         }
@@ -102,7 +101,7 @@ pub(crate) fn checked(bytes: &[u8]) -> Result<Frame, CheckFault>
     Ok(frame)
 }
 
-// Tests whether the bytes are a sealed book: a note, and then the writing of a lawful book.
+// Checks whether the bytes are a sealed book: a note of any length, and then the writing of a lawful book.
 pub fn check(bytes: &[u8]) -> Result<(), CheckFault>
     ensures { CheckAnswer bytes.now result }
 {

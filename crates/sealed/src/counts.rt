@@ -1,6 +1,18 @@
-// How many records a sealed book has.
+// The sizes of the records of sealed bytes, in bytes, and how many records there are.
 ghost use Rattle.std.specs.Prelude.{◌≡◌};
 ghost use Rattle.sealed.specs.Writing.{records_length};
+
+// A node: its kind and two operands of 16 bits.
+pub(crate) const NODE: usize = 5;
+
+// An entry: its kind and three operands of 16 bits.
+pub(crate) const ENTRY: usize = 7;
+
+// The trailer: both counts, of 16 bits, and a distance of 32.
+pub(crate) const TRAILER: usize = 8;
+
+// Added to the kind of a struck entry.
+pub(crate) const STRUCK: u8 = 16;
 
 #[derive(Clone, Copy, Default)]
 pub(crate) struct Counts {
@@ -13,6 +25,6 @@ impl Counts {
     pub(crate) fn records_length(self) -> u32
         ensures { result ≡ records_length self.nodes self.entries }
     {
-        5 * self.nodes as u32 + 7 * self.entries as u32
+        NODE as u32 * self.nodes as u32 + ENTRY as u32 * self.entries as u32
     }
 }

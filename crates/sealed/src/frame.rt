@@ -3,8 +3,10 @@ ghost use Rattle.std.specs.Prelude.{◌≡◌, ◌+◌, ◌-◌, ◌*◌, ◌<�
 ghost use Rattle.sealed.specs.Writing.{records_length};
 ghost use Rattle.sealed.specs.Reading.{has_trailer};
 
-use crate::bytes::{raw_node_at, stored_at, u16_at, u32_at};
-use crate::counts::Counts;
+use crate::bytes::{raw_node_at, stored_at};
+use crate::counts::{Counts, ENTRY, NODE, TRAILER};
+use logic::bytes::{u16_at, u32_at};
+use logic::limits::{ENTRIES, NODES};
 use logic::records::{NO_STORED_ENTRY, Node, StoredEntry};
 
 // The counts are within the limits, and the bytes have room for the records and a trailer.
@@ -20,10 +22,13 @@ pub(crate) struct Frame<'a> {
 // Whether a trailer with these counts and this distance fits the bytes, of which there are `len`.
 fn trailer_fits(len: usize, counts: Counts, distance: u32) -> bool
     requires { 8 ≤ len }
-    ensures { result ≡ nat_le counts.nodes 512 && (nat_le counts.entries 256 && (distance == records_length counts.nodes counts.entries && nat_le distance (len - 8))) }
+    ensures { result
+        ≡ nat_le counts.nodes 512
+        && (nat_le counts.entries 256
+        && (distance == records_length counts.nodes counts.entries && nat_le distance (len - 8))) }
 {
-    let few = counts.nodes <= 512 && counts.entries <= 256;
-    few && distance == counts.records_length() && distance as usize <= len - 8
+    let few = counts.nodes <= NODES && counts.entries <= ENTRIES;
+    few && distance == counts.records_length() && distance as usize <= len - TRAILER
 }
 
 impl<'a> Frame<'a> {
@@ -35,11 +40,11 @@ impl<'a> Frame<'a> {
         ensures { MatchOption result (has_trailer bytes.now ≡ false) (λ f. (f.bytes.now ≡ bytes.now) × EndsInTrailer f) }
     {
         let len = bytes.len();
-        if len < 8 {
+        if len < TRAILER {
             return None;
         }
         let counts = Counts {
-            nodes: u16_at(bytes, len - 8),
+            nodes: u16_at(bytes, len - TRAILER),
             entries: u16_at(bytes, len - 6),
         };
         if !trailer_fits(len, counts, u32_at(bytes, len - 4)) {
@@ -66,7 +71,7 @@ impl<'a> Frame<'a> {
         ensures place { result ≡ node_place self.now i }
         ensures within { result + 5 ≤ length self.now.bytes.now }
     {
-        self.bytes.len() - 8 - self.counts.records_length() as usize + 5 * i as usize
+        self.bytes.len() - TRAILER - self.counts.records_length() as usize + NODE * i as usize
     }
 
     // Where entry j begins.
@@ -75,7 +80,7 @@ impl<'a> Frame<'a> {
         ensures place { result ≡ entry_place self.now j }
         ensures within { result + 7 ≤ length self.now.bytes.now }
     {
-        self.bytes.len() - 8 - 7 * self.counts.entries as usize + 7 * j as usize
+        self.bytes.len() - TRAILER - ENTRY * self.counts.entries as usize + ENTRY * j as usize
     }
 
     // Node i, or Absent past the end.

@@ -1,4 +1,4 @@
-// Sealed books: check tests the bytes, a sealed book reads within them, seal writes them.
+// Sealed books: check tests bytes, a sealed book is read from them, and seal writes them.
 #![tactic(auto)]
 
 mod bytes;

@@ -4,15 +4,14 @@ ghost use Rattle.logic.specs.Lawful.{is_entry};
 ghost use Rattle.sealed.specs.Writing.{node_bytes, entry_bytes, trailer_bytes};
 ghost use Rattle.sealed.specs.Checks.{SealAnswer, RoundTrip};
 
-use crate::counts::Counts;
+use crate::counts::{Counts, ENTRY, NODE, STRUCK, TRAILER};
 use crate::faults::SealFault;
 use books::book::ReadableBook;
 use logic::records::{Node, RawEntry, RawNode, StoredEntry};
 use logic::refusal::BadLength;
 
-// A node is 5 bytes. This and the next two are no conversions by From: node and entry are of another crate, and the
-// trailer is written as they are.
-fn node_bytes(node: Node) -> [u8; 5]
+// The bytes of a node.
+fn node_bytes(node: Node) -> [u8; NODE]
     ensures { result ≡ node_bytes node }
 {
     let raw = RawNode::from(node);
@@ -21,13 +20,17 @@ fn node_bytes(node: Node) -> [u8; 5]
     [raw.kind, a, aa, b, bb]
 }
 
-// An entry is 7 bytes; its kind has 16 more where it is struck, as the format has it.
-fn entry_bytes(stored: StoredEntry) -> [u8; 7]
+// The bytes of an entry, its kind marked where it is struck.
+fn entry_bytes(stored: StoredEntry) -> [u8; ENTRY]
     requires { is_entry stored.entry ≡ true }
     ensures { result ≡ entry_bytes stored }
 {
     let raw = RawEntry::from(stored.entry);
-    let kind = if stored.live { raw.kind } else { raw.kind + 16 };
+    let kind = if stored.live {
+        raw.kind
+    } else {
+        raw.kind + STRUCK
+    };
     let [a, aa] = raw.a.to_le_bytes();
     let [b, bb] = raw.b.to_le_bytes();
     let [c, cc] = raw.c.to_le_bytes();
@@ -35,7 +38,7 @@ fn entry_bytes(stored: StoredEntry) -> [u8; 7]
 }
 
 // Both counts, and the distance back to the first node.
-fn trailer_bytes(counts: Counts) -> [u8; 8]
+fn trailer_bytes(counts: Counts) -> [u8; TRAILER]
     ensures { result ≡ trailer_bytes counts.nodes counts.entries }
 {
     let [n, nn] = counts.nodes.to_le_bytes();
@@ -44,8 +47,7 @@ fn trailer_bytes(counts: Counts) -> [u8; 8]
     [n, nn, m, mm, d, dd, ddd, dddd]
 }
 
-// Writes bytes at an offset, leaves the rest, and answers where they end, since the rest of the buffer is the caller's.
-// One line of std, so no cursor as for the line of a verdict.
+// Writes bytes at an offset, leaves the rest of the buffer as it was, and returns where they end.
 fn put(out: &mut [u8], at: usize, bytes: &[u8]) -> usize
     requires { at + length bytes.now ≤ length out.old }
     ensures end { result ≡ at + length bytes.now }
@@ -56,7 +58,8 @@ fn put(out: &mut [u8], at: usize, bytes: &[u8]) -> usize
     end
 }
 
-// Writes a book without a note at the front of a buffer and answers the length; bytes past it stay.
+// Writes a book without a note at the front of a buffer and returns the length; the bytes past it stay as they
+// were. Refused where the buffer is shorter than the writing.
 pub fn seal<B: ReadableBook>(book: &B, out: &mut [u8]) -> Result<usize, SealFault>
     ensures answer { SealAnswer (B.ReadableBook.meaning book.now) out.old out.new result }
     ensures trip { IfOk result (λ n. RoundTrip (B.ReadableBook.meaning book.now) (take n out.new)) }
@@ -65,11 +68,9 @@ pub fn seal<B: ReadableBook>(book: &B, out: &mut [u8]) -> Result<usize, SealFaul
         nodes: book.node_count(),
         entries: book.entry_count(),
     };
-    if out.len() < counts.records_length() as usize + 8 {
+    if out.len() < counts.records_length() as usize + TRAILER {
         return Err(BadLength(out.len()));
     }
-    // Two loops, by number, since that is how a book is asked. Tried: one function over a closure with the record's
-    // size as a const parameter, which the borrow checker does not cover.
     let mut at = 0;
     for i in 0..counts.nodes {
         at = put(out, at, &node_bytes(book.node_at(i)));

@@ -1,4 +1,4 @@
-// A book that is read within the sealed bytes it was opened on; nothing is copied.
+// A book that is read from the sealed bytes it was opened on; nothing is copied.
 ghost use Rattle.std.specs.Prelude.{◌≡◌, Err, IfOk, IfErr};
 ghost use Rattle.sealed.specs.Frames.{book_in};
 ghost use Rattle.sealed.specs.Writing.{SealedAs};
@@ -13,7 +13,8 @@ use crate::frame::Frame;
 use books::book::ReadableBook;
 use logic::records::{Node, StoredEntry};
 
-// The sealed bytes and their two counts: check passes, or both counts are 0. So the book is lawful.
+// The sealed bytes and their two counts: check passes, or both counts are 0. So the book is lawful. Its questions
+// read the records at their offsets.
 #[derive(Clone, Copy)]
 pub struct SealedBook<'a> {
     frame: Frame<'a>,
@@ -22,10 +23,12 @@ pub struct SealedBook<'a> {
 }
 
 impl<'a> SealedBook<'a> {
-    // The book that is sealed in these bytes, or what check answers to them.
+    ghost use Rattle.sealed.specs.SealedBooks.{meaning, opened_on};
+
+    // The book that is sealed in these bytes, or the fault of `check`.
     pub fn read(bytes: &'a [u8]) -> Result<SealedBook<'a>, CheckFault>
-        ensures granted { IfOk result (λ b. SealedAs bytes.now (book_in b.frame)) }
-        ensures within { IfOk result (λ b. b.frame.bytes.now ≡ bytes.now) }
+        ensures granted { IfOk result (λ b. SealedAs bytes.now (meaning b)) }
+        ensures within { IfOk result (λ b. opened_on b ≡ bytes.now) }
         ensures refused { IfErr result (λ f. CheckAnswer bytes.now (Err f)) }
     {
         let frame = checked(bytes)?;
@@ -34,8 +37,8 @@ impl<'a> SealedBook<'a> {
 
     // The book that is sealed in these bytes, or the empty book where check refuses them.
     pub fn open(bytes: &'a [u8]) -> SealedBook<'a>
-        ensures within { result.frame.bytes.now ≡ bytes.now }
-        ensures opened { Opened bytes.now (book_in result.frame) }
+        ensures within { opened_on result ≡ bytes.now }
+        ensures opened { Opened bytes.now (meaning result) }
     {
         let frame = checked(bytes).unwrap_or(Frame::empty(bytes));
         SealedBook { frame }
@@ -43,7 +46,9 @@ impl<'a> SealedBook<'a> {
 }
 
 impl<'a> ReadableBook for SealedBook<'a> {
-    ghost meaning = { λ b. book_in b.frame };
+    ghost use Rattle.sealed.specs.SealedBooks.{meaning};
+
+    ghost meaning = { meaning };
 
     ghost lawful = { λ b. lawful_known _ b.lawful };
 

@@ -1,6 +1,5 @@
 -- The place of each refusal lies within the bytes that were handed in, or within a limit. Assumes nothing.
-use Rattle.std.proofs.Common.{◌≡◌, ℕ, ◌+◌, ◌/◌, ◌<◌, ◌≤◌, ltb, ◌&&◌, List, length, inl, inr, arith}
-use Rattle.std.proofs.lemmas.Bool.{cases_lt, cases_Bool, cond-false, le-ltb, and_parts, ltb-true}
+use Rattle.std.proofs.Common.{◌≡◌, ℕ, ◌+◌, ◌/◌, ◌<◌, ◌≤◌, List, length, arith}
 use Rattle.logic.specs.Books.{Book}
 use Rattle.logic.specs.Lawful.{Lawful}
 use Rattle.logic.specs.Limits.{Lengths}
@@ -14,9 +13,8 @@ use Rattle.orders.specs.declared.faults.PairsFault.TheVariants as pairs
 use Rattle.orders.specs.Faults.{pairs_fault_place}
 use Rattle.orders.specs.Answers.{PairsRefused}
 use Rattle.models.specs.Interpretations.{interpretation_of}
-use Rattle.models.specs.Fields.{Field, size, name, role, individual, first_byte, Good, LowestBad}
+use Rattle.models.specs.Fields.{Field, size, name, role, individual, first_byte, InBytes, LowestBad}
 use Rattle.models.specs.declared.faults.ViewFault.TheVariants as view
-use Rattle.models.proofs.BadFields.{empty_within}
 use Rattle.judge.specs.declared.faults.RefuteFault.{RefuteFault}
 use Rattle.judge.specs.declared.faults.RefuteFault.TheVariants.{BadLength, AtStep, AfterClosing, NotClosed}
 use Rattle.judge.specs.declared.show_faults.ShowFault.{ShowFault}
@@ -58,25 +56,14 @@ pub refute_place : (bk : Book) (ls : Lengths) (ss : List ℕ) (f : RefuteFault) 
 refute_place bk ls ss f (by_length bad) = omega arith
 refute_place bk ls ss f (by_steps whole h) = omega (arith, halted_place bk ls ss f h, steps_length ss (length ss / 5))
 
--- a bad field is one of those that are there: past them nothing is said
+-- a bad field is one of those that the bytes have
 bad_field : (bs : List ℕ) (k : ℕ) → LowestBad (interpretation_of bs) k → k < 2337
-bad_field bs k b = of b.field b.stands b.bad where
-  of : (f : Field) → first_byte f ≡ k → (Good (interpretation_of bs) f → ⊥) → k < 2337
-  of size at bad = omega (arith, at)
-  of (name a) at bad = elim (cases_lt a 64) [
-    | inl l ↦ omega (arith, at, l)
-    | inr l ↦ absurd (bad (empty_within _ _ (cond-false _ _ _ (le-ltb a 64 l))))
-  ]
-  of (role r x) at bad = elim (cases_Bool (ltb r 16 && ltb x 32)) [
-    | inl h ↦ (let p = and_parts (ltb r 16) (ltb x 32) h in omega (arith, at, ltb-true r 16 p.0, ltb-true x 32 p.1))
-    | inr h ↦ (let e = cond-false _ _ _ h in absurd (bad (empty_within _ _ e, λ _. e)))
-  ]
-  of (individual a) at bad = elim (cases_lt a 32) [
-    | inl l ↦ omega (arith, at, l)
-    | inr l ↦ (let none : (interpretation_of bs).individual a ≡ 0 = cond-false _ _ _ (le-ltb a 32 l) in
-        let some = (b.lowest size (omega (arith, at))).0 in
-        absurd (bad (omega (arith, none, some))))
-  ]
+bad_field bs k b = of b.field b.in_bytes b.stands where
+  of : (f : Field) → InBytes f → first_byte f ≡ k → k < 2337
+  of size there at = omega (arith, at)
+  of (name a) there at = omega (arith, at, there)
+  of (role r x) there at = omega (arith, at, there.0, there.1)
+  of (individual a) there at = omega (arith, at, there)
 
 pub show_place : (bk : Book) (ms ps list : List ℕ) (f : ShowFault) → Lawful bk → ShowRefused bk ms (order_of_pairs ps) list f → show_fault_place f ≤ length ms + length ps + 2337
 show_place bk ms ps list (View (view.BadLength n)) lawful r = omega (arith, r.0.2)

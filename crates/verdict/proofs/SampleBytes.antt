@@ -2,7 +2,7 @@
 use Rattle.std.proofs.Common.{◌≡◌, ℕ, zero, suc, ◌+◌, ◌*◌, ◌<◌, ◌≤◌, ◌≢◌, Bool, true, false, cond, List, [], ◌∷◌, length, get_or, set, replicate, refl, ◌∙◌, arith}
 use Rattle.std.proofs.Math.Path.{fun_ext}
 use Rattle.std.proofs.lemmas.List.{get_or-set_same, get_or-set_other, length-set, length-replicate}
-use Rattle.orders.specs.Bytes.{word}
+use Rattle.logic.specs.Bytes.{u32_at}
 use Rattle.orders.proofs.Tables.{no_rows}
 use Rattle.models.specs.Interpretations.{Interpretation, interpretation_of}
 use Rattle.models.specs.Answers.{HasModelLength}
@@ -54,7 +54,7 @@ module _ (xs : List ℕ) (zeros : (k : ℕ) → get_or xs k 0 ≡ 0) (long : len
   byte_9 = get_or-set_same thrice 9 2 0 (omega (arith, length-set twice 5 1, length-set once 1 3, length-set xs 0 2))
 
   -- three zeros behind a byte
-  word_of : (k : ℕ) → ((j : ℕ) → k < j → j ≤ k + 3 → get_or bytes j 0 ≡ 0) → word bytes k ≡ get_or bytes k 0
+  word_of : (k : ℕ) → ((j : ℕ) → k < j → j ≤ k + 3 → get_or bytes j 0 ≡ 0) → u32_at bytes k ≡ get_or bytes k 0
   word_of k behind =
       let a = behind (k + 1) (omega arith) (omega arith) in
       let b = behind (k + 2) (omega arith) (omega arith) in
@@ -65,7 +65,7 @@ module _ (xs : List ℕ) (zeros : (k : ℕ) → get_or xs k 0 ≡ 0) (long : len
   far_byte : (k : ℕ) → 10 ≤ k → get_or bytes k 0 ≡ 0
   far_byte k h = other k (λ e. omega arith) (λ e. omega arith) (λ e. omega arith) (λ e. omega arith)
 
-  far_word : (k : ℕ) → 10 ≤ k → word bytes k ≡ 0
+  far_word : (k : ℕ) → 10 ≤ k → u32_at bytes k ≡ 0
   far_word k h = word_of k (λ j l m. far_byte j (omega arith)) ∙ far_byte k h
 
   none : (b : Bool) (n : ℕ) → n ≡ 0 → cond b n 0 ≡ 0

@@ -5,7 +5,7 @@ use Rattle.std.proofs.lemmas.Bool.{both_ways, false≢true, ne_eqb}
 use Rattle.logic.specs.declared.refusal.BadLength.{BadLength}
 use Rattle.orders.specs.declared.faults.PairsFault.{PairsFault}
 use Rattle.orders.specs.declared.faults.PairsFault.TheVariants as pair
-use Rattle.orders.specs.Bytes.{byte}
+use Rattle.logic.specs.Bytes.{byte}
 use Rattle.orders.specs.Masks.{has, Preference, Strict}
 use Rattle.orders.specs.PairLaws.{order_of_pairs, WholeRows, LawfulRow, LowestUnlawful}
 use Rattle.orders.specs.RankLaws.{order_of_ranks}

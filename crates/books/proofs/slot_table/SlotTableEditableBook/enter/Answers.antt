@@ -6,24 +6,15 @@ use Rattle.logic.specs.Lawful.{Lawful}
 use Rattle.logic.proofs.Deciding.{lawful_known}
 use Rattle.logic.proofs.Refusing.{entry_granted}
 use Rattle.std.proofs.lemmas.List.{length_push}
-use Rattle.std.proofs.lemmas.Result.{err_from_is_err_and}
 use Rattle.books.specs.Marks.{nodes_of}
 use Rattle.books.proofs.Changes.{with_entry_is}
-use Rattle.books.proofs.Exact.{entry_granted_exact, entry_refused_exact}
 use Rattle.books.proofs.slot_table.SlotTableEditableBook.enter.Goals as goal
-
-pub returns-in_err-entry-clause-exact : goal.returns-in_err-entry-clause-exact
-returns-in_err-entry-clause-exact c =
-    let s = c.args.self.now in
-    let bk : Book = record { nodes = nodes_of (vec_items s.nodes); entries = vec_items s.entries } in
-    let p = err_from_is_err_and c.from_residual.result c.from_residual.ensures.1 in
-    rw p.1 (entry_refused_exact bk c.args.raw _ c.in_err-entry.ensures)
 
 pub invariant_of-self : goal.invariant_of-self
 invariant_of-self c =
     let s = c.args.self.now in
     let bk : Book = record { nodes = nodes_of (vec_items s.nodes); entries = vec_items s.entries } in
-    let h = c.in_ok-entry.ensures in
+    let h = c.in_ok-entry.ensures.offered in
     let lawful = (entry_granted bk c.args.raw h.0).1 (lawful_known bk s.lawful) in
     let grown = with_entry_is (nodes_of (vec_items s.nodes)) (vec_items s.entries) (vec_items c.push_reserved.new.self) _ _ _ c.push_reserved.ensures.items c.taken.ensures h.1 in
     let l : StoredEntry = record { entry = entry_of c.args.raw; live = true } in
@@ -41,6 +32,6 @@ pub returns : goal.returns
 returns c =
     let s = c.args.self.now in
     let bk : Book = record { nodes = nodes_of (vec_items s.nodes); entries = vec_items s.entries } in
-    let h = c.in_ok-entry.ensures in
+    let h = c.in_ok-entry.ensures.offered in
     let grown = with_entry_is (nodes_of (vec_items s.nodes)) (vec_items s.entries) (vec_items c.push_reserved.new.self) _ _ _ c.push_reserved.ensures.items c.taken.ensures h.1 in
-    record { answer = (h.0, c.entry_count-count.ensures, grown); exact = entry_granted_exact bk c.args.raw (lawful_known bk s.lawful) h.0 }
+    record { answer = (h.0, c.entry_count-count.ensures, grown); exact = c.in_ok-entry.ensures.exact }

@@ -1,6 +1,5 @@
 use Rattle.std.proofs.Common.{vec_items, sym, subst, arith}
 use Rattle.std.proofs.lemmas.List.{length_push, length-map}
-use Rattle.std.proofs.lemmas.Result.{err_from_is_err_and}
 use Rattle.logic.specs.Written.{node_of}
 use Rattle.logic.specs.Books.{Book}
 use Rattle.logic.specs.Lawful.{Lawful}
@@ -8,22 +7,14 @@ use Rattle.logic.proofs.Deciding.{lawful_known}
 use Rattle.logic.proofs.Refusing.{node_granted}
 use Rattle.books.specs.Marks.{nodes_of}
 use Rattle.books.proofs.Changes.{with_node_is, bare_more, marked_more}
-use Rattle.books.proofs.Exact.{node_granted_exact, node_refused_exact}
 use Rattle.books.proofs.slot_table.SlotTableEditableBook.node.Goals as goal
-
-pub returns-in_err-node-clause-exact : goal.returns-in_err-node-clause-exact
-returns-in_err-node-clause-exact c =
-    let s = c.args.self.now in
-    let bk : Book = record { nodes = nodes_of (vec_items s.nodes); entries = vec_items s.entries } in
-    let p = err_from_is_err_and c.from_residual.result c.from_residual.ensures.1 in
-    rw p.1 (node_refused_exact bk c.args.raw _ c.in_err-node.ensures)
 
 pub invariant_of-self : goal.invariant_of-self
 invariant_of-self c =
     let s = c.args.self.now in
     let ms = vec_items s.nodes in
     let bk : Book = record { nodes = nodes_of ms; entries = vec_items s.entries } in
-    let h = c.in_ok-node.ensures in
+    let h = c.in_ok-node.ensures.offered in
     let lawful = (node_granted bk c.args.raw h.0).1 (lawful_known bk s.lawful) in
     let more = c.push_reserved.ensures in
     let nodes = bare_more ms _ c.in_ok-node.node more.items in
@@ -42,6 +33,6 @@ returns c =
     let s = c.args.self.now in
     let ms = vec_items s.nodes in
     let bk : Book = record { nodes = nodes_of ms; entries = vec_items s.entries } in
-    let h = c.in_ok-node.ensures in
+    let h = c.in_ok-node.ensures.offered in
     let grown = with_node_is (nodes_of ms) (nodes_of (vec_items c.push_reserved.new.self)) (vec_items s.entries) _ _ (bare_more ms _ c.in_ok-node.node c.push_reserved.ensures.items) h.1 in
-    record { answer = (h.0, c.node_count-count.ensures, grown); exact = node_granted_exact bk c.args.raw (lawful_known bk s.lawful) h.0 }
+    record { answer = (h.0, c.node_count-count.ensures, grown); exact = c.in_ok-node.ensures.exact }

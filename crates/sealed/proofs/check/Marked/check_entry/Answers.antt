@@ -20,7 +20,7 @@ returns c =
     let room : length bk.entries < 256 = omega (arith, length-entries_in f.bytes.now (entry_start f.bytes.now f.counts.entries) c.args.j, f.few_entries, c.requires) in
     let is = c.raw_entry_at-raw.ensures ∙ ap (raw_entry_at f.bytes.now) c.entry_place-at.ensures.place in
     let typical = typical_at [] bk.nodes raw.a ∙ sym (c.typical_node-typical_a.ensures [] ∙ ap (λ n. is_typical (read [] n)) c.node_at.ensures) in
-    let judged = c.judge_entry-judged.ensures bk (frame_nodes f) typical (c.plain_operands-plain_operands.ensures bk.nodes m.marked) in
+    let judged = c.judge_entry-judged.ensures.books bk (frame_nodes f) typical (c.plain_operands-plain_operands.ensures bk.nodes m.marked) in
     let h = judged_ok _ c.judge_entry-judged.result c.map_err.result _ judged c.in_ok-map_err.field-0 c.map_err.ensures.cases c.in_ok-map_err.was in
     ap (entry_refusal bk) (sym is) ∙ with_room 256 (length bk.entries) (entry_unfit bk raw) room ∙ h.0
 
@@ -33,7 +33,7 @@ returns-in_err-map_err c =
     let room : length bk.entries < 256 = omega (arith, length-entries_in f.bytes.now (entry_start f.bytes.now f.counts.entries) c.args.j, f.few_entries, c.requires) in
     let is = c.raw_entry_at-raw.ensures ∙ ap (raw_entry_at f.bytes.now) c.entry_place-at.ensures.place in
     let typical = typical_at [] bk.nodes raw.a ∙ sym (c.typical_node-typical_a.ensures [] ∙ ap (λ n. is_typical (read [] n)) c.node_at.ensures) in
-    let judged = c.judge_entry-judged.ensures bk (frame_nodes f) typical (c.plain_operands-plain_operands.ensures bk.nodes m.marked) in
+    let judged = c.judge_entry-judged.ensures.books bk (frame_nodes f) typical (c.plain_operands-plain_operands.ensures bk.nodes m.marked) in
     let h = judged_err _ c.judge_entry-judged.result c.map_err.result _ judged c.in_err-map_err.field-0.0 c.map_err.ensures.cases c.in_err-map_err.was in
     let fault : c.from_residual.result ≡ Err (BadRecord h.0 c.entry_place-at.result) = search rules in
     rw fault (ap (entry_refusal bk) (sym is) ∙ with_room 256 (length bk.entries) (entry_unfit bk raw) room ∙ h.2, c.entry_place-at.ensures.place)

@@ -1,5 +1,5 @@
 use Rattle.std.proofs.Common.{◌≡◌, ℕ, ◌<◌, sym, subst, rules}
-use Rattle.sealed.specs.Reading.{byte_at}
+use Rattle.logic.specs.Bytes.{byte}
 use Rattle.sealed.specs.Frames.{book_in}
 use Rattle.sealed.specs.Checks.{Opened}
 use Rattle.sealed.proofs.Opening.{Counted, counted, counted_bytes, counted_stands, counted_lawful, opened}
@@ -19,5 +19,5 @@ returns-clause-opened c =
     let f = c.unwrap_or-frame.result in
     let h : Counted f = rw c.unwrap_or-frame.ensures (counted bs c.checked.result c.empty.result c.checked.ensures none.same none.no_nodes none.no_entries) in
     let is : f.bytes.now ≡ bs = rw c.unwrap_or-frame.ensures (counted_bytes bs c.checked.result c.empty.result c.checked.ensures none.same) in
-    let bytes : (k : ℕ) → byte_at bs k < 256 = search rules in
-    subst (λ b. Opened b (book_in f)) is (opened f h (subst (λ b. (k : ℕ) → byte_at b k < 256) (sym is) bytes))
+    let bytes : (k : ℕ) → byte bs k < 256 = search rules in
+    subst (λ b. Opened b (book_in f)) is (opened f h (subst (λ b. (k : ℕ) → byte b k < 256) (sym is) bytes))

@@ -1,6 +1,6 @@
 use Rattle.std.proofs.Common.{◌≡◌, ℕ, ◌<◌, sym, subst, inl, rules}
 use Rattle.std.proofs.lemmas.Result.{err_from_is_err_and}
-use Rattle.sealed.specs.Reading.{byte_at}
+use Rattle.logic.specs.Bytes.{byte}
 use Rattle.sealed.specs.Writing.{SealedAs}
 use Rattle.sealed.specs.Frames.{book_in}
 use Rattle.sealed.proofs.Opening.{stood_lawful}
@@ -24,5 +24,5 @@ pub returns-clause-granted : goal.returns-clause-granted
 returns-clause-granted c =
     let f = c.in_ok-frame.frame in
     let is : f.bytes.now ≡ c.args.bytes.now = c.in_ok-frame.ensures.0 in
-    let bytes : (k : ℕ) → byte_at c.args.bytes.now k < 256 = search rules in
-    subst (λ b. SealedAs b (book_in f)) is (passed_sealed f.bytes.now f.counts.nodes f.counts.entries c.in_ok-frame.ensures.1 (subst (λ b. (k : ℕ) → byte_at b k < 256) (sym is) bytes))
+    let bytes : (k : ℕ) → byte c.args.bytes.now k < 256 = search rules in
+    subst (λ b. SealedAs b (book_in f)) is (passed_sealed f.bytes.now f.counts.nodes f.counts.entries c.in_ok-frame.ensures.1 (subst (λ b. (k : ℕ) → byte b k < 256) (sym is) bytes))
