@@ -23,4 +23,5 @@ Called (strike i r) bk bk' = StrikeAnswer bk bk' i r
 -- the calls, the newest first, made one after the other
 pub data CalledAll : List BookCall → Book → Book → Type 0 where
   none : {bk : Book} → CalledAll [] bk bk
-  more : {cs : List BookCall} {c : BookCall} {bk bk' bk'' : Book} → CalledAll cs bk bk' → Called c bk' bk'' → CalledAll (c ∷ cs) bk bk''
+  more : {cs : List BookCall} {c : BookCall} {bk bk' bk'' : Book} →
+      CalledAll cs bk bk' → Called c bk' bk'' → CalledAll (c ∷ cs) bk bk''

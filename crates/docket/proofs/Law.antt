@@ -189,7 +189,7 @@ step_law handed tableaux h s e t k moves =
       shows = λ (bs, o, list, r, is, m, means, sat, room). (show_accepts h s t bs o list r k (moved _ is) m means sat room).1;
       trees = λ tree ls within fits.
           let b = tableaux s.book k.book.lawful ls tree within fits in (b.0, λ r is. refute_accepts h s t _ ls r k (moved _ is) b.1);
-      models = λ m o few strict better sat.
+      models = λ m o few sat strict better.
           let b = handed m few o strict better in (b.0, λ list r room is. show_accepts h s t _ o list r k (moved _ is) m b.1 sat room);
     }
 

@@ -1,6 +1,6 @@
 -- What the calls of a docket answer.
--- PassesOn: the answer of a lower call, passed on. BookAnswers, RefuteCount: lower calls. Answered: the table of answers.
--- event_of: a call of the book as a call of the docket.
+-- passed_on, PassesOn: the answer of a lower call, passed on. BookAnswers: what a book answers. RefuteCount: what
+-- the judge answers, as a number. Answered: the table of answers. event_of: a book's call as the docket's.
 -- Assumes nothing.
 use Rattle.std.specs.Prelude.{◌≡◌, ℕ, List, length, Result}
 use Rattle.std.specs.Result.{result_map_both}
@@ -35,17 +35,20 @@ event_of (BookCall.node raw r) = Event.node raw (passed_on fault.Node r)
 event_of (BookCall.enter raw r) = Event.enter raw (passed_on fault.Enter r)
 event_of (BookCall.strike i r) = Event.strike i (passed_on fault.Strike r)
 
--- the number of entries in the judge's answer
+-- what the judge answers of the bytes, with the number of entries in place of their set
 abbrev pub RefuteCount : Book → Lengths → List ℕ → Result ℕ RefuteFault → Type 0
 RefuteCount bk ls bs r =
-    (answer : Result Used RefuteFault) × (r ≡ result_map_both member_count (λ f. f) answer) × RefuteAnswer bk ls bs answer
+    (answer : Result Used RefuteFault)
+    × (r ≡ result_map_both member_count (λ f. f) answer) × RefuteAnswer bk ls bs answer
 
--- What a call answers over the book bk, where the docket stands at s: node, enter and strike what a book does, refute
--- the number of entries used or the judge's fault, show what the judge does, and standing the standing.
+-- What a call answers over the book bk, where the docket stands at s: node, enter and strike what a book
+-- answers; refute the number of entries used, or the judge's fault; show what the judge answers; standing the
+-- standing.
 abbrev pub Answered : Book → Standing → Event → Type 0
-Answered bk s (node raw r) = PassesOn fault.Node r (λ lower. BookAnswers bk (BookCall.node raw lower))
-Answered bk s (enter raw r) = PassesOn fault.Enter r (λ lower. BookAnswers bk (BookCall.enter raw lower))
-Answered bk s (strike i r) = PassesOn fault.Strike r (λ lower. BookAnswers bk (BookCall.strike i lower))
-Answered bk s (refute bs ls r) = PassesOn fault.Refute r (λ lower. RefuteCount bk ls bs lower)
-Answered bk s (show bs o list r) = PassesOn fault.Show r (λ lower. ShowPromise bk bs o (length list) list lower)
+Answered bk s (node raw r) = PassesOn fault.Node r (λ a. BookAnswers bk (BookCall.node raw a))
+Answered bk s (enter raw r) = PassesOn fault.Enter r (λ a. BookAnswers bk (BookCall.enter raw a))
+Answered bk s (strike i r) = PassesOn fault.Strike r (λ a. BookAnswers bk (BookCall.strike i a))
+Answered bk s (refute bs ls r) = PassesOn fault.Refute r (λ a. RefuteCount bk ls bs a)
+Answered bk s (show bs o list r) =
+    PassesOn fault.Show r (λ a. ShowPromise bk bs o (length list) list a)
 Answered bk s (standing r) = r ≡ s

@@ -1,6 +1,6 @@
 -- What a call changes, and what each change makes of a docket.
--- Change: the changes. change: of an event. State: what a docket is. row: where a change stands in the table.
--- book_after, standing_after, used_after: each part of the state afterwards. after: the state afterwards.
+-- Change: the changes. change: what a call changed. State: what a docket is. granted_event: a change as an event of
+-- the table of standings. book_after, standing_after, used_after: the parts of the state afterwards. after: all of it.
 -- Assumes nothing.
 use Rattle.std.specs.Prelude.{ℕ, Bool, List, Option, Some, None, Ok, Err, Result}
 use Rattle.logic.specs.declared.records.Node.{Node}
@@ -17,7 +17,7 @@ use Rattle.docket.specs.declared.standing.Granted.TheVariants.{Entered, Struck, 
 use Rattle.docket.specs.Standings.{next}
 use Rattle.docket.specs.Events.{Event, Event.node, Event.enter, Event.strike, Event.refute, Event.show, Event.standing}
 
--- nothing; a node came; an entry was taken, with its number; the entry of this number was struck; a tableau with
+-- nothing; a node came; an entry was taken, as this number; the entry of this number was struck; a tableau with
 -- these steps was accepted; a model was accepted
 pub data Change : Type 0 where
   nothing : Change
@@ -47,13 +47,14 @@ pub record State : Type 0 where
   pub standing : Standing
   pub used : ℕ → Bool
 
+-- a node and an entry are appended, and a struck entry is no longer live
 abbrev pub book_after : Change → Book → Book
 book_after (node_came n) bk = with_node bk n
 book_after (entry_taken i e) bk = with_entry bk e
 book_after (entry_struck i) bk = with_strike bk i
 book_after c bk = bk
 
--- the event of the table, if the change is one; `used` are the entries that the last accepted tableau used
+-- the event of the table, if the change is one; `used` has the entries that the last accepted tableau used
 abbrev pub granted_event : (ℕ → Bool) → Change → Option Granted
 granted_event used (entry_taken i e) = Some Entered
 granted_event used (entry_struck i) = Some (Struck (used i))
@@ -66,6 +67,7 @@ abbrev pub standing_after : Option Granted → Standing → Standing
 standing_after (Some event) s = next s event
 standing_after None s = s
 
+-- an accepted tableau becomes the last one
 abbrev pub used_after : Change → (ℕ → Bool) → ℕ → Bool
 used_after (tableau_accepted ss) used = names ss
 used_after c used = used

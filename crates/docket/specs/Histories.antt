@@ -63,7 +63,8 @@ pub record Tabled (h : List Event) (e : Event) (s t : Standing) : Type 0 where
 -- the standing that the table gives along the history
 pub data Stood : List Event → Standing → Type 0 where
   opened : Stood [] Open
-  followed : {h : List Event} {e : Event} {s t : Standing} → Stood h s → Tabled h e s t → Stood (e ∷ h) t
+  followed : {h : List Event} {e : Event} {s t : Standing} →
+      Stood h s → Tabled h e s t → Stood (e ∷ h) t
 
 -- the call is a strike that removes an entry that the last accepted tableau used
 abbrev pub Lifts : List Event → Event → Type 0

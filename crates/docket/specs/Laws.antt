@@ -49,40 +49,46 @@ pub record Law (h : List Event) (s : State) : Type 0 where
 
 -- the bytes and the order mean the model
 abbrev pub Handed : Model → List ℕ → Preference → Type 0
-Handed m bs o = HasModelLength bs × ((f : Compatible (interpretation_of bs) o) × Alike m (model_of (interpretation_of bs) o f))
+Handed m bs o =
+    HasModelLength bs
+    × ((f : Compatible (interpretation_of bs) o) × Alike m (model_of (interpretation_of bs) o f))
 
 -- a refute that is handed a closed tableau over the live entries, written within the limits, and lists that
 -- are long enough for it
 abbrev pub Closing : Book → Event → Type 0
 Closing bk e =
-    (bs : List ℕ) × (ls : Lengths) × (r : Result ℕ Fault) × (e ≡ refute bs ls r) × Refutation bk ls bs
+    (bs : List ℕ) × (ls : Lengths) × (r : Result ℕ Fault)
+    × (e ≡ refute bs ls r) × Refutation bk ls bs
 
 -- a show that is handed a model that satisfies the live entries, and a list that has a place for each node
 abbrev pub Modelling : Book → Event → Type 0
 Modelling bk e =
-    (bs : List ℕ) × (o : Preference) × (list : List ℕ) × (r : Result ℕ Fault) × (e ≡ show bs o list r)
-    × (m : Model) × Handed m bs o × Satisfies m bk × (length bk.nodes ≤ length list)
+    (bs : List ℕ) × (o : Preference) × (list : List ℕ) × (r : Result ℕ Fault)
+    × (e ≡ show bs o list r) × (m : Model) × Handed m bs o × Satisfies m bk × (length bk.nodes ≤ length list)
 
 -- what holds of the next call, whichever it is and whatever it is handed
 pub record StepLaw (h : List Event) (s : State) (e : Event) (t : State) : Type 0 where
   pub answer : Answered s.book s.standing e
   pub table : Tabled h e s.standing t.standing
-  -- a call that changes nothing, as every refused one, leaves book, standing and used entries as they were
+  -- a call that changes nothing, as a refused one, leaves book, standing and used entries as they were
   pub unchanged : change e ≡ nothing → t ≡ s
-  -- from refuted it moves exactly when it is a strike of an entry used, from shown when enter takes an entry
+  -- from refuted it moves exactly when it is a strike of an entry used, from shown when enter takes
+  -- an entry
   pub from_refuted : s.standing ≡ Refuted → (t.standing ≢ Refuted) ↔ Lifts h e
   pub from_shown : s.standing ≡ Shown → (t.standing ≢ Shown) ↔ Takes e
   -- refute makes it refuted on every closed tableau, show makes it shown on every model
   pub refutes : Closing s.book e → t.standing ≡ Refuted
   pub shows : Modelling s.book e → t.standing ≡ Shown
-  -- of the tree: each closed tableau over the live entries, within the limits, has bytes, and refute of them with
-  -- lists that it fits is accepted and makes it refuted
+  -- the same of the tree: a closed tableau over the live entries, within the limits, that fits the lists has
+  -- bytes, and refute of them is accepted and makes it refuted
   pub trees : (k : Closed s.book start) (ls : Lengths) → WithinLimits k → limits.FitsLists ls k →
       Bytes (encoded (writing k))
-      × ((r : Result ℕ Fault) → e ≡ refute (encoded (writing k)) ls r → IsOk r × (t.standing ≡ Refuted))
-  -- of the model: each model of the live entries of at most 32 elements has bytes, and show of them, with any strict
-  -- order that is its "better" and a list that has a place for each node, is accepted and makes it shown
-  pub models : (m : Model) (o : Preference) → m.size ≤ 32 → Strict o → MeansBetter m o → Satisfies m s.book →
+      × ((r : Result ℕ Fault) → e ≡ refute (encoded (writing k)) ls r →
+      IsOk r × (t.standing ≡ Refuted))
+  -- the same of the model: a model of the live entries, of at most 32 elements, has bytes, and show of them,
+  -- with any strict order that is its "better" and a list long enough, is accepted and makes it shown
+  pub models : (m : Model) (o : Preference) → m.size ≤ 32 → Satisfies m s.book →
+      Strict o → MeansBetter m o →
       Bytes (model_bytes m)
       × ((list : List ℕ) (r : Result ℕ Fault) → length s.book.nodes ≤ length list →
       e ≡ show (model_bytes m) o list r → IsOk r × (t.standing ≡ Shown))
@@ -100,7 +106,8 @@ DocketLaw = (h : List Event) (s : State) → Run h s → LawfulRun h s
 abbrev pub RunsExtend : Type 0
 RunsExtend = (h es : List Event) (s t : State) → Run h s → MovesAll es s t → Run (es ++ h) t
 
--- calls that are made of a book are as many calls of a docket that has it
+-- Calls made of a book are calls of a docket that has it: what is proved of any working book, by a list of its
+-- calls, so holds of dockets.
 abbrev pub BookCallsLift : Type 0
 BookCallsLift =
     (cs : List BookCall) (s : State) (bk : Book) → CalledAll cs s.book bk →
@@ -109,10 +116,11 @@ BookCallsLift =
 -- every model of at most 32 elements can be handed over as bytes, with any strict order that is its "better"
 abbrev pub ModelsHanded : Type 0
 ModelsHanded =
-    (m : Model) → m.size ≤ 32 → (o : Preference) → Strict o → MeansBetter m o → Bytes (model_bytes m) × Handed m (model_bytes m) o
+    (m : Model) → m.size ≤ 32 → (o : Preference) → Strict o → MeansBetter m o
+    → Bytes (model_bytes m) × Handed m (model_bytes m) o
 
 -- every closed tableau within the limits that fits the lists can be handed over as bytes
 abbrev pub TableauxHanded : Type 0
 TableauxHanded =
-    (bk : Book) → Lawful bk → (ls : Lengths) (t : Closed bk start) → WithinLimits t → limits.FitsLists ls t
-    → Bytes (encoded (writing t)) × Refutation bk ls (encoded (writing t))
+    (bk : Book) → Lawful bk → (ls : Lengths) (t : Closed bk start)
+    → WithinLimits t → limits.FitsLists ls t → Bytes (encoded (writing t)) × Refutation bk ls (encoded (writing t))

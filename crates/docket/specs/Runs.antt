@@ -20,7 +20,8 @@ pub record Moves (e : Event) (s t : State) : Type 0 where
 -- a list of calls, one after the other
 pub data MovesAll : List Event → State → State → Type 0 where
   none : {s : State} → MovesAll [] s s
-  more : {es : List Event} {e : Event} {s t u : State} → MovesAll es s t → Moves e t u → MovesAll (e ∷ es) s u
+  more : {es : List Event} {e : Event} {s t u : State} →
+      MovesAll es s t → Moves e t u → MovesAll (e ∷ es) s u
 
 -- an empty book, and open; no tableau was accepted
 pub record New (s : State) : Type 0 where

@@ -90,7 +90,8 @@ impl<B: EditableBook> Docket<B> {
         Ok(())
     }
 
-    // Judges a tableau against the book, and answers how many entries it used. The lists are left blank.
+    // Judges a tableau against the book, and answers how many entries it used. The lists are left
+    // blank.
     pub fn refute(
         &mut self,
         bytes: &[u8],
@@ -98,8 +99,10 @@ impl<B: EditableBook> Docket<B> {
         edges: &mut [Edge],
         splits: &mut [Split],
     ) -> Result<u16, Fault>
-        ensures run { MovesAll (Event.refute bytes.now (lengths constraints.old edges.old splits.old) result ∷ []) (state_of self.old) (state_of self.new) }
-        ensures blank { AllBlank (lengths constraints.old edges.old splits.old) constraints.new edges.new splits.new }
+        ensures run { MovesAll (Event.refute bytes.now (lengths constraints.old edges.old splits.old) result ∷ [])
+            (state_of self.old) (state_of self.new) }
+        ensures blank { AllBlank (lengths constraints.old edges.old splits.old)
+            constraints.new edges.new splits.new }
     {
         let used = refute(&self.book, bytes, constraints, edges, splits)?;
         let count = used.count();
@@ -111,7 +114,8 @@ impl<B: EditableBook> Docket<B> {
     // Judges a model against the book, with an order of any kind, and answers the number of its elements. The
     // list is left as the judge leaves it.
     pub fn show<O: Order>(&mut self, bytes: &[u8], order: &O, list: &mut [u32]) -> Result<u8, Fault>
-        ensures { MovesAll (Event.show bytes.now (O.Order.meaning order.now) list.new result ∷ []) (state_of self.old) (state_of self.new) }
+        ensures { MovesAll (Event.show bytes.now (O.Order.meaning order.now) list.new result ∷ [])
+            (state_of self.old) (state_of self.new) }
     {
         let n = show(&self.book, bytes, order, list)?;
         self.standing.follow(Granted::Satisfied);

@@ -39,7 +39,8 @@ fn make<B: EditableBook, O: Order>(
     sets: &mut [u32],
 )
     ensures { (e : Event)
-        × Asks O.Order.meaning (lengths constraints.old edges.old splits.old) (length sets.old) call.now e
+        × Asks O.Order.meaning (lengths constraints.old edges.old splits.old) (length sets.old)
+        call.now e
         × MovesAll (e ∷ []) (state_of docket.old) (state_of docket.new) }
 {
     match call {
