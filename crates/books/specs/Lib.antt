@@ -10,3 +10,5 @@ pub mod Marks
 pub mod Writing
 -- what the records of a journal mean
 pub mod Replay
+-- lists of such calls
+pub mod Calls

@@ -1,6 +1,6 @@
 -- What a change of a book leaves as it was: the other entries, and whether they are true.
 -- Assumes nothing.
-use Rattle.std.proofs.Common.{◌≡◌, ℕ, ◌<◌, Bool, true, false, [], ◌∷◌, length, sym, ap, ◌∙◌, subst, inl, inr, arith}
+use Rattle.std.proofs.Common.{◌≡◌, ℕ, ◌<◌, ◌↔◌, refl, Bool, true, false, [], ◌∷◌, length, sym, ap, ◌∙◌, subst, inl, inr, arith}
 use Rattle.std.proofs.ByRecursion.{All-get_or}
 use Rattle.std.proofs.lemmas.List.{get_or_append_left, get_or_past, get_or_push, get_or-set_same, get_or-set_other, length-set}
 use Rattle.std.proofs.lemmas.Bool.{cases_lt, and_parts, ltb-true, false≢true}
@@ -54,15 +54,6 @@ operands_there bk lawful i h =
     (entry_parts (length bk.nodes) (entry_at bk i)
     (All-get_or (λ l. entry_well_formed (length bk.nodes) l.entry ≡ true) bk.entries i no_stored_entry (live_there bk i h) lawful.well_formed.entries)).2
 
--- one node more leaves whether a live entry is true
-pub node_holds : (m : Model) (bk : Book) (n : Node) → Lawful bk → (i : ℕ) → live_at bk i ≡ true → HoldsIn m bk (entry_at bk i) → HoldsIn m (with_node bk n) (entry_at bk i)
-node_holds m bk n lawful i h =
-    holds_alike m bk (with_node bk n) (length bk.nodes) (λ c l. concepts_stay bk.nodes (n ∷ []) c l) (entry_at bk i) (operands_there bk lawful i h)
-
-pub node_held : (m : Model) (bk : Book) (n : Node) → Lawful bk → (i : ℕ) → live_at bk i ≡ true → HoldsIn m (with_node bk n) (entry_at bk i) → HoldsIn m bk (entry_at bk i)
-node_held m bk n lawful i h =
-    holds_alike m (with_node bk n) bk (length bk.nodes) (λ c l. sym (concepts_stay bk.nodes (n ∷ []) c l)) (entry_at bk i) (operands_there bk lawful i h)
-
 -- one entry more leaves the entries before it
 pub enter_before : (bk : Book) (e : Entry) (i : ℕ) → i < length bk.entries → stored_at (with_entry bk e) i ≡ stored_at bk i
 enter_before bk e i h = get_or_append_left bk.entries _ no_stored_entry i h
@@ -83,3 +74,48 @@ strike_here bk j = elim (cases_lt j (length bk.entries)) [
 -- so what is live after it is another entry
 pub strike_apart : (bk : Book) (j i : ℕ) → live_at (with_strike bk j) i ≡ true → i ≡ j → ⊥
 strike_apart bk j i h e = false≢true (sym (strike_here bk j) ∙ ap (live_at (with_strike bk j)) (sym e) ∙ h)
+
+-- entry i is the same in two books, and its entry is true in the same models
+pub record Same (bk ck : Book) (i : ℕ) : Type 0 where
+  pub stored : stored_at ck i ≡ stored_at bk i
+  pub holds : (m : Model) → HoldsIn m ck (entry_at bk i) ↔ HoldsIn m bk (entry_at bk i)
+
+pub same_node : (bk : Book) (n : Node) → Lawful bk → (i : ℕ) → live_at bk i ≡ true → Same bk (with_node bk n) i
+same_node bk n lawful i h =
+    let below = operands_there bk lawful i h in
+    let stay = concepts_stay bk.nodes (n ∷ []) in
+    record {
+      stored = refl;
+      holds = λ m. (
+        holds_alike m (with_node bk n) bk (length bk.nodes) (λ c l. sym (stay c l)) (entry_at bk i) below,
+        holds_alike m bk (with_node bk n) (length bk.nodes) stay (entry_at bk i) below,
+      );
+    }
+
+pub same_enter : (bk : Book) (e : Entry) (i : ℕ) → live_at bk i ≡ true → Same bk (with_entry bk e) i
+same_enter bk e i h = record { stored = enter_before bk e i (live_there bk i h); holds = λ m. (λ t. t, λ t. t) }
+
+pub same_strike : (bk : Book) (j i : ℕ) → (i ≡ j → ⊥) → Same bk (with_strike bk j) i
+same_strike bk j i ne = record { stored = strike_other bk j i ne; holds = λ m. (λ t. t, λ t. t) }
+
+-- a model stays one where the live lines are lines that were there
+pub model_lasts : (bk ck : Book) (m : Model) → Satisfies m bk → ((i : ℕ) → live_at ck i ≡ true → Same bk ck i) → Satisfies m ck
+model_lasts bk ck m sat same = satisfies_at m ck (λ i l.
+    let s = same i l in
+    subst (λ (k : StoredEntry). HoldsIn m ck k.entry) (sym s.stored) ((s.holds m).1 (holds_at m bk sat i (sym (ap (λ (k : StoredEntry). k.live) s.stored) ∙ l))))
+
+-- the entries of a set are live, and no model makes all of them true
+pub record Core (bk : Book) (used : ℕ → Bool) : Type 0 where
+  pub live : (i : ℕ) → used i ≡ true → live_at bk i ≡ true
+  pub none : (m : Model) → ((i : ℕ) → used i ≡ true → HoldsIn m bk (entry_at bk i)) → ⊥
+
+-- so no model satisfies the book
+pub core_no_model : (bk : Book) (used : ℕ → Bool) → Core bk used → (m : Model) → Satisfies m bk → ⊥
+core_no_model bk used c m s = c.none m (λ i u. holds_at m bk s i (c.live i u))
+
+-- a core stays one where its entries stay
+pub core_lasts : (bk ck : Book) (used : ℕ → Bool) → Core bk used → ((i : ℕ) → used i ≡ true → Same bk ck i) → Core ck used
+core_lasts bk ck used c same = record {
+  live = λ i u. ap (λ (k : StoredEntry). k.live) (same i u).stored ∙ c.live i u;
+  none = λ m h. c.none m (λ i u. ((same i u).holds m).0 (subst (λ (k : StoredEntry). HoldsIn m ck k.entry) (same i u).stored (h i u)));
+}

@@ -1,117 +1,115 @@
--- What every run keeps. Assumes nothing.
-use Rattle.std.proofs.Common.{◌≡◌, ℕ, Bool, List, [], ◌∷◌, ◌++◌, Ok, Err, sym, refl, ap, ◌∙◌, subst}
+-- What each change keeps: of the book, that it is what the changes made of it, and of the standing, that it is justified.
+-- Assumes nothing.
+use Rattle.std.proofs.Common.{◌≡◌, ℕ, Bool, true, List, [], ◌∷◌, map, length, ◌↔◌, IsTrue, sym, refl, ap, ◌∙◌, subst, inl, inr, arith, false, IfSome, if◌then◌else◌}
+use Rattle.std.proofs.Math.Seq.{map-set_same}
+use Rattle.std.proofs.lemmas.List.{map-append, length_push}
+use Rattle.std.proofs.lemmas.Bool.{cases_lt, false≢true}
 use Rattle.logic.specs.declared.records.StoredEntry.{StoredEntry}
-use Rattle.logic.specs.declared.tableau.Step.{Step}
-use Rattle.logic.specs.Written.{node_of, entry_of}
-use Rattle.logic.specs.Books.{Book}
-use Rattle.logic.specs.Limits.{Lengths}
+use Rattle.logic.specs.Books.{Book, empty, stored_at, no_stored_entry, with_node, with_entry, struck, with_strike}
+use Rattle.logic.specs.Lawful.{Lawful}
+use Rattle.logic.specs.Models.{Model}
+use Rattle.logic.specs.Satisfaction.{Satisfies}
 use Rattle.logic.specs.Tableaux.{names}
-use Rattle.logic.proofs.NamedLive.{named_live}
-use Rattle.models.specs.Interpretations.{interpretation_of}
-use Rattle.models.specs.Meanings.{model_of}
-use Rattle.judge.specs.declared.used.Used.{Used}
-use Rattle.judge.specs.Members.{member}
-use Rattle.judge.specs.Refutations.{RefuteAnswer}
-use Rattle.docket.specs.Events.{Event, Event.node, Event.enter, Event.strike, Event.refute, Event.show, Event.standing}
-use Rattle.docket.specs.Runs.{State, Moves, Moved, Moved.none, Moved.then, New, Run}
-use Rattle.docket.specs.Histories.{last_steps}
-use Rattle.docket.proofs.KeptBook.{BookKept, quiet, book_node, book_enter, book_strike, book_new}
-use Rattle.docket.proofs.KeptStanding.{Core, StandingKept, standing_new, stay, standing_node, standing_enter, standing_strike, standing_refute, standing_show}
+use Rattle.logic.proofs.Lawfulness.{lawful_empty, lawful_with_strike}
+use Rattle.docket.specs.Events.{Event}
+use Rattle.docket.specs.Changes.{Change, node_came, entry_taken, entry_struck, tableau_accepted, model_accepted, change, book_after, granted_event, standing_after, used_after}
+use Rattle.docket.specs.Histories.{nodes_after, entries_after, StandsAfter, granted_nodes, granted_entries, Stands}
+use Rattle.docket.proofs.Changes.{live_at, live_there, enter_before, enter_here, strike_other, strike_apart, Core, model_lasts, core_lasts, same_node, same_enter, same_strike, core_no_model}
+use Rattle.docket.specs.declared.standing.Standing.{Standing}
+use Rattle.docket.specs.declared.standing.Standing.TheVariants.{Open, Refuted, Shown}
+use Rattle.docket.specs.Standings.{Occurs}
 
-pub record KeptRun (h : List Event) (s : State) : Type 0 where
-  pub book : BookKept h s.book
-  pub standing : StandingKept s.book s.standing s.used
-  pub used : (i : ℕ) → s.used i ≡ names (last_steps h) i
+-- what is known of a change, since the call that made it was granted over the book
+abbrev pub Backed : Book → Change → Type 0
+Backed bk (node_came n) = Lawful bk → Lawful (with_node bk n)
+Backed bk (entry_taken i e) = (i ≡ length bk.entries) × (Lawful bk → Lawful (with_entry bk e))
+Backed bk (tableau_accepted ss) = Core bk (names ss)
+Backed bk model_accepted = (m : Model) × Satisfies m bk
+Backed bk c = Unit {0}
 
--- an accepted tableau names live entries that no model makes true
-pub refutation_core : (bk : Book) (ls : Lengths) (bs : List ℕ) (u : Used) → RefuteAnswer bk ls bs (Ok u) → Core bk (member u)
-refutation_core bk ls bs u a =
-    let shown = a.accepted u refl in
-    let r = shown.refutation in
-    record {
-      live = λ i m. ap (λ (l : StoredEntry). l.live) (named_live bk r.tableau i (ap (λ (ss : List Step). names ss i) r.written ∙ sym (shown.named i) ∙ m)).1;
-      none = λ m h. shown.sound m (λ i n. h i (shown.named i ∙ n));
-    }
+pub record BookKept (h : List Event) (bk : Book) : Type 0 where
+  pub lawful : Lawful bk
+  pub nodes : bk.nodes ≡ granted_nodes h
+  pub entries : map (λ (l : StoredEntry). l.entry) bk.entries ≡ granted_entries h
+  pub live : (i : ℕ) → IsTrue (live_at bk i) ↔ Stands i h
 
-kept_new : (s : State) → New s → KeptRun [] s
-kept_new s new = record {
-  book = book_new s.book new.book;
-  standing = standing_new s.book s.standing s.used new.standing;
-  used = new.used;
-}
+lawful_after : (c : Change) (bk : Book) → Backed bk c → Lawful bk → Lawful (book_after c bk)
+lawful_after (node_came n) bk b l = b l
+lawful_after (entry_taken i e) bk b l = b.1 l
+lawful_after (entry_struck i) bk b l = lawful_with_strike bk l i
+lawful_after c bk b l = l
 
-same_used : (s t : State) (ss : List Step) → t.used ≡ s.used → ((i : ℕ) → s.used i ≡ names ss i) → (i : ℕ) → t.used i ≡ names ss i
-same_used s t ss e k i = ap (λ (f : ℕ → Bool). f i) e ∙ k i
+nodes_kept : (c : Change) (bk : Book) → (book_after c bk).nodes ≡ nodes_after c bk.nodes
+nodes_kept (node_came n) bk = refl
+nodes_kept c bk = refl
 
-kept_move : (e : Event) (h : List Event) (s t : State) → KeptRun h s → Moves e s t → KeptRun (e ∷ h) t
-kept_move (node raw (Ok i)) h s t k (moved, kept) = record {
-  book = subst (BookKept _) (sym moved.2) (book_node raw i h s.book moved.0 k.book);
-  standing = stay _ _ _ _ _ _ moved.2 kept.standing kept.used (standing_node s.book (node_of raw) s.standing s.used k.book.lawful k.standing);
-  used = same_used s t (last_steps h) kept.used k.used;
-}
-kept_move (node raw (Err f)) h s t k (e, is, moved, kept) = record {
-  book = quiet (node raw (Err f)) h _ _ (λ z. z) (λ i z. z) refl refl moved.1 k.book;
-  standing = stay _ _ _ _ _ _ moved.1 kept.standing kept.used k.standing;
-  used = same_used s t (last_steps h) kept.used k.used;
-}
-kept_move (enter raw (Ok i)) h s t k (moved, next, used) = record {
-  book = subst (BookKept _) (sym moved.2) (book_enter raw i h s.book moved.0 moved.1 k.book);
-  standing = stay _ _ _ _ _ _ moved.2 refl used (standing_enter s.book (entry_of raw) s.standing t.standing s.used next k.standing);
-  used = same_used s t (last_steps h) used k.used;
-}
-kept_move (enter raw (Err f)) h s t k (e, is, moved, kept) = record {
-  book = quiet (enter raw (Err f)) h _ _ (λ z. z) (λ i z. z) refl refl moved.1 k.book;
-  standing = stay _ _ _ _ _ _ moved.1 kept.standing kept.used k.standing;
-  used = same_used s t (last_steps h) kept.used k.used;
-}
-kept_move (strike j (Ok u)) h s t k (moved, next, used) = record {
-  book = subst (BookKept _) (sym moved.1) (book_strike j u h s.book k.book);
-  standing = stay _ _ _ _ _ _ moved.1 refl used (standing_strike s.book j s.standing t.standing s.used next k.standing);
-  used = same_used s t (last_steps h) used k.used;
-}
-kept_move (strike j (Err f)) h s t k (e, is, moved, kept) = record {
-  book = quiet (strike j (Err f)) h _ _ (λ z. z) (λ i z. z) refl refl moved.1 k.book;
-  standing = stay _ _ _ _ _ _ moved.1 kept.standing kept.used k.standing;
-  used = same_used s t (last_steps h) kept.used k.used;
-}
-kept_move (refute bs ls (Ok n)) h s t k (u, a, number, same, next, used) = record {
-  book = quiet (refute bs ls (Ok n)) h _ _ (λ z. z) (λ i z. z) refl refl same k.book;
-  standing = stay _ _ _ _ _ _ same refl used (standing_refute s.book s.standing t.standing s.used (member u) (refutation_core s.book ls bs u a) next k.standing);
-  used = λ i. ap (λ (f : ℕ → Bool). f i) used ∙ (a.accepted u refl).named i;
-}
-kept_move (refute bs ls (Err f)) h s t k (e, is, why, same, kept) = record {
-  book = quiet (refute bs ls (Err f)) h _ _ (λ z. z) (λ i z. z) refl refl same k.book;
-  standing = stay _ _ _ _ _ _ same kept.standing kept.used k.standing;
-  used = same_used s t (last_steps h) kept.used k.used;
-}
-kept_move (show bs o list (Ok n)) h s t k (shown, same, next, used) =
-    let a = shown.answer in
-    record {
-      book = quiet (show bs o list (Ok n)) h _ _ (λ z. z) (λ i z. z) refl refl same k.book;
-      standing = stay _ _ _ _ _ _ same refl used (standing_show s.book s.standing t.standing s.used (model_of (interpretation_of bs) o a.0.1) (a.3 a.0.1).0 next k.standing);
-      used = same_used s t (last_steps h) used k.used;
-    }
-kept_move (show bs o list (Err f)) h s t k (e, is, why, same, kept) = record {
-  book = quiet (show bs o list (Err f)) h _ _ (λ z. z) (λ i z. z) refl refl same k.book;
-  standing = stay _ _ _ _ _ _ same kept.standing kept.used k.standing;
-  used = same_used s t (last_steps h) kept.used k.used;
-}
-kept_move (standing r) h s t k (is, same, kept) = record {
-  book = quiet (standing r) h _ _ (λ z. z) (λ i z. z) refl refl same k.book;
-  standing = stay _ _ _ _ _ _ same kept.standing kept.used k.standing;
-  used = same_used s t (last_steps h) kept.used k.used;
+entries_kept : (c : Change) (bk : Book) → map (λ (l : StoredEntry). l.entry) (book_after c bk).entries ≡ entries_after c (map (λ (l : StoredEntry). l.entry) bk.entries)
+entries_kept (entry_taken i e) bk = map-append (λ (l : StoredEntry). l.entry) bk.entries _
+entries_kept (entry_struck j) bk = map-set_same (λ (l : StoredEntry). l.entry) bk.entries j (struck (stored_at bk j)) no_stored_entry refl
+entries_kept c bk = refl
+
+-- an entry is live after a change exactly when it stands
+live_kept : (c : Change) (bk : Book) (i : ℕ) (P : Type 0) → Backed bk c → (IsTrue (live_at bk i) ↔ P) → IsTrue (live_at (book_after c bk) i) ↔ StandsAfter i c P
+live_kept (entry_taken n e) bk i P b d = (
+  λ l. (elim (cases_lt i (length bk.entries)) [
+    | inl before ↦ inr (d.0 (sym (ap (λ (k : StoredEntry). k.live) (enter_before bk e i before)) ∙ l))
+    | inr past ↦ inl (omega (arith, b.0, live_there (with_entry bk e) i l, length_push bk.entries (record { entry = e; live = true })))
+  ]),
+  λ s. (elim s [
+    | inl is ↦ enter_here bk e i (sym b.0 ∙ sym is)
+    | inr p ↦ (let l = d.1 p in ap (λ (k : StoredEntry). k.live) (enter_before bk e i (live_there bk i l)) ∙ l)
+  ]),
+)
+live_kept (entry_struck j) bk i P b d = (
+  λ l. (let apart = strike_apart bk j i l in (apart, d.0 (sym (ap (λ (k : StoredEntry). k.live) (strike_other bk j i apart)) ∙ l))),
+  λ s. ap (λ (k : StoredEntry). k.live) (strike_other bk j i s.0) ∙ d.1 s.1,
+)
+live_kept c bk i P b d = d
+
+pub book_kept : (e : Event) (h : List Event) (bk : Book) → Backed bk (change e) → BookKept h bk → BookKept (e ∷ h) (book_after (change e) bk)
+book_kept e h bk b k = record {
+  lawful = lawful_after (change e) bk b k.lawful;
+  nodes = nodes_kept (change e) bk ∙ ap (nodes_after (change e)) k.nodes;
+  entries = entries_kept (change e) bk ∙ ap (entries_after (change e)) k.entries;
+  live = λ i. live_kept (change e) bk i (Stands i h) b (k.live i);
 }
 
-kept_moves : (h : List Event) (s t : State) → KeptRun [] s → Moved h s t → KeptRun h t
-kept_moves h s t k none = k
-kept_moves h s t k (then {es = es} {e = e} {t = u} ms m) = kept_move e es u t (kept_moves es s u k ms) m
+pub book_new : (bk : Book) → bk ≡ empty → BookKept [] bk
+book_new bk same =
+    subst (BookKept []) (sym same)
+    (record {
+      lawful = lawful_empty;
+      nodes = refl;
+      entries = refl;
+      live = λ i. (λ l. false≢true l, λ s. absurd s);
+    })
 
-pub kept_run : (h : List Event) (s : State) → Run h s → KeptRun h s
-kept_run h s r = kept_moves h r.first s (kept_new r.first r.new) r.moved
+-- what a standing says: refuted, that the entries used are a core, and shown, that there is a model
+abbrev pub Justified : Standing → Book → (ℕ → Bool) → Type 0
+Justified Open bk used = Unit {0}
+Justified Refuted bk used = Core bk used
+Justified Shown bk used = (m : Model) × Satisfies m bk
 
-moved_on : (h es : List Event) (s t u : State) → Moved h s t → Moved es t u → Moved (es ++ h) s u
-moved_on h es s t u m none = m
-moved_on h es s t u m (then {es = fs} {t = v} ms x) = then (moved_on h fs s t v m ms) x
+core_struck : (b : Bool) (bk : Book) (j : ℕ) (used : ℕ → Bool) → used j ≡ b → Core bk used → Justified (if b then Open else Refuted) (with_strike bk j) used
+core_struck true bk j used is c = tt
+core_struck false bk j used is c = core_lasts bk (with_strike bk j) used c (λ i u. same_strike bk j i (λ q. false≢true (sym is ∙ ap used (sym q) ∙ u)))
 
-pub run_on : (h es : List Event) (s t : State) → Run h s → Moved es s t → Run (es ++ h) t
-run_on h es s t r m = record { first = r.first; new = r.new; moved = moved_on h es r.first s t r.moved m }
+-- each change leaves a standing that is justified
+pub justified_after : (c : Change) (s : Standing) (bk : Book) (used : ℕ → Bool) → Lawful bk → Backed bk c → Justified s bk used → Justified (standing_after (granted_event used c) s) (book_after c bk) (used_after c used)
+justified_after (node_came n) Refuted bk used lawful b k = core_lasts bk _ used k (λ i u. same_node bk n lawful i (k.live i u))
+justified_after (node_came n) Shown bk used lawful b k = (k.0, model_lasts bk (with_node bk n) k.0 k.1 (λ i l. same_node bk n lawful i l))
+justified_after (entry_taken i e) Refuted bk used lawful b k = core_lasts bk _ used k (λ i u. same_enter bk e i (k.live i u))
+justified_after (entry_taken i e) Shown bk used lawful b k = tt
+justified_after (entry_struck j) Refuted bk used lawful b k = core_struck (used j) bk j used refl k
+justified_after (entry_struck j) Shown bk used lawful b k =
+    (k.0, model_lasts bk (with_strike bk j) k.0 k.1 (λ i l. same_strike bk j i (strike_apart bk j i l)))
+justified_after (tableau_accepted ss) Open bk used lawful b k = b
+justified_after (tableau_accepted ss) Refuted bk used lawful b k = b
+justified_after model_accepted Open bk used lawful b k = b
+justified_after c s bk used lawful b k = k
+
+-- a core and a model exclude each other
+pub occurs : (c : Change) (s : Standing) (bk : Book) (used : ℕ → Bool) → Backed bk c → Justified s bk used → IfSome (granted_event used c) (λ event. Occurs event s)
+occurs (tableau_accepted ss) Shown bk used b k = core_no_model bk _ b k.0 k.1
+occurs model_accepted Refuted bk used b k = core_no_model bk _ k b.0 b.1
+occurs c s bk used b k = tt

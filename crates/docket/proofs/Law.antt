@@ -1,132 +1,200 @@
--- The law of all runs. Assumes nothing.
-use Rattle.std.proofs.Common.{◌≡◌, Bool, true, false, ◌↔◌, List, [], Ok, Err, sym, refl, ◌∙◌, subst}
-use Rattle.std.proofs.lemmas.Bool.{false≢true}
-use Rattle.logic.specs.Books.{Book}
+-- What every run keeps, and the law of all runs. Assumes nothing.
+use Rattle.std.proofs.Common.{◌≡◌, ℕ, Bool, List, [], ◌∷◌, ◌++◌, Ok, Err, Result, IfSome, sym, refl, ap, ◌∙◌, subst, ◌≢◌, ◌≤◌, true, false, ◌↔◌, length, IsOk, if◌then◌else◌}
+use Rattle.std.proofs.Math.Path.{fun_ext}
+use Rattle.std.specs.Result.{result_map_both, is_ok}
+use Rattle.logic.specs.declared.records.StoredEntry.{StoredEntry}
+use Rattle.logic.specs.declared.tableau.Step.{Step}
+use Rattle.logic.specs.Books.{Book, empty}
+use Rattle.logic.specs.Limits.{Lengths}
 use Rattle.logic.specs.Tableaux.{names}
+use Rattle.logic.proofs.NamedLive.{named_live}
+use Rattle.logic.proofs.Refusing.{node_granted, entry_granted}
 use Rattle.models.specs.Interpretations.{interpretation_of}
-use Rattle.models.specs.Meanings.{Compatible, model_of}
-use Rattle.models.specs.Encodings.{model_bytes}
-use Rattle.models.proofs.PairEncoding.{models_encoded}
+use Rattle.models.specs.Meanings.{model_of, Compatible}
+use Rattle.judge.specs.declared.used.Used.{Used}
+use Rattle.judge.specs.declared.faults.RefuteFault.{RefuteFault}
+use Rattle.judge.specs.Members.{member_count}
+use Rattle.judge.specs.Steps.{decoded}
+use Rattle.judge.specs.Refutations.{RefuteAnswer, Refutation}
+use Rattle.docket.specs.declared.fault.Fault.{Fault}
+use Rattle.docket.specs.declared.fault.Fault.TheVariants as fault
 use Rattle.docket.specs.declared.standing.Standing.{Standing}
-use Rattle.docket.specs.declared.standing.Standing.TheVariants.{Refuted, Shown}
-use Rattle.docket.specs.Standings.{Next, struck_as}
+use Rattle.docket.specs.Standings.{Occurs, next}
 use Rattle.docket.specs.Events.{Event, Event.node, Event.enter, Event.strike, Event.refute, Event.show, Event.standing}
-use Rattle.docket.specs.Runs.{State, Moves, Moved, Moved.none, Moved.then, New}
-use Rattle.docket.specs.Histories.{last_steps, Tabled, Stood, Stood.opened, Stood.followed, Lifts, Takes}
-use Rattle.docket.specs.Laws.{Answered, Closing, Modelling, StepLaw, DocketLaw, ModelsHanded}
-use Rattle.docket.proofs.Table.{sure_entered, sure_struck, sure_closed, sure_satisfied, closed_next, satisfied_next}
-use Rattle.docket.proofs.KeptStanding.{core_no_model, not_shown, not_refuted}
-use Rattle.docket.proofs.Kept.{KeptRun, kept_run}
+use Rattle.docket.specs.Changes.{Change, tableau_accepted, if_granted, change, State, granted_event, standing_after, used_after, after, entry_taken, entry_struck}
+use Rattle.docket.specs.Answers.{passed_on, PassesOn, Answered}
+use Rattle.docket.specs.Runs.{Moves, MovesAll, MovesAll.none, MovesAll.more, New, Run}
+use Rattle.docket.specs.Histories.{last_steps, steps_after, Tabled, Stood, Stood.opened, Stood.followed, Lifts, Takes}
+use Rattle.docket.proofs.Changes.{Core, core_no_model}
+use Rattle.docket.proofs.Kept.{Backed, BookKept, book_kept, book_new, Justified, justified_after, occurs}
+use Rattle.std.proofs.lemmas.Bool.{false≢true}
+use Rattle.logic.specs.declared.records.Entry.{Entry}
+use Rattle.logic.specs.Models.{Model}
+use Rattle.logic.specs.Satisfaction.{Satisfies}
+use Rattle.orders.specs.Masks.{Preference}
+use Rattle.models.specs.Encodings.{model_bytes, ModelsEncoded}
+use Rattle.judge.specs.Laws.{TableauxHaveBytes}
+use Rattle.docket.specs.declared.standing.Standing.TheVariants.{Open, Refuted, Shown}
+use Rattle.docket.specs.declared.standing.Granted.TheVariants.{Closed, Satisfied}
+use Rattle.docket.specs.Laws.{Handed, StepLaw, DocketLaw, ModelsHanded, TableauxHanded}
 
-answered : (e : Event) (s t : State) → Moves e s t → Answered s.book s.standing e
-answered (node raw (Ok i)) s t (moved, kept) = (moved.0, moved.1)
-answered (node raw (Err f)) s t (e, is, moved, kept) = (e, is, moved.0)
-answered (enter raw (Ok i)) s t (moved, next, used) = (moved.0, moved.1)
-answered (enter raw (Err f)) s t (e, is, moved, kept) = (e, is, moved.0)
-answered (strike i (Ok u)) s t (moved, next, used) = moved.0
-answered (strike i (Err f)) s t (e, is, moved, kept) = (e, is, moved.0.0, moved.0.2)
-answered (refute bs ls (Ok n)) s t (u, a, number, same, next, used) =
-    let shown = a.accepted u refl in
-    (shown.refutation, number ∙ shown.count, λ g why. cc (a.refuses g why))
-answered (refute bs ls (Err f)) s t (e, is, a, same, kept) =
-    (e, is, a.refused e refl, λ r. cc (a.accepts r).1, λ g why. cc (a.refuses g why))
-answered (show bs o list (Ok n)) s t (shown, same, next, used) = shown
-answered (show bs o list (Err f)) s t (e, is, why, same, kept) = (e, is, why)
-answered (standing r) s t (is, same, kept) = is
+pub record KeptRun (h : List Event) (s : State) : Type 0 where
+  pub book : BookKept h s.book
+  pub justified : Justified s.standing s.book s.used
+  pub used : s.used ≡ names (last_steps h)
+  pub stood : Stood h s.standing
 
-tabled : (e : Event) (h : List Event) (s t : State) → KeptRun h s → Moves e s t → Tabled h e s.standing t.standing
-tabled (node raw (Ok i)) h s t k (moved, kept) = kept.standing
-tabled (node raw (Err f)) h s t k (e, is, moved, kept) = kept.standing
-tabled (enter raw (Ok i)) h s t k (moved, next, used) = sure_entered s.standing t.standing next
-tabled (enter raw (Err f)) h s t k (e, is, moved, kept) = kept.standing
-tabled (strike i (Ok u)) h s t k (moved, next, used) =
-    subst (λ b. Next ⊥ s.standing (struck_as b) t.standing) (k.used i) (sure_struck (s.used i) s.standing t.standing next)
-tabled (strike i (Err f)) h s t k (e, is, moved, kept) = kept.standing
-tabled (refute bs ls (Ok n)) h s t k (u, a, number, same, next, used) =
-    sure_closed s.standing t.standing (not_shown s.book s.standing s.used (a.accepted u refl).no_model k.standing) next
-tabled (refute bs ls (Err f)) h s t k (e, is, why, same, kept) = kept.standing
-tabled (show bs o list (Ok n)) h s t k (shown, same, next, used) =
-    let a = shown.answer in
-    sure_satisfied s.standing t.standing (not_refuted s.book s.standing s.used (model_of (interpretation_of bs) o a.0.1) (a.3 a.0.1).0 k.standing) next
-tabled (show bs o list (Err f)) h s t k (e, is, why, same, kept) = kept.standing
-tabled (standing r) h s t k (is, same, kept) = kept.standing
-
--- a standing that stays, and a call that is none of those that move it
-unmoved : {N : Type 0} (s t : Standing) → t ≡ s → (N → ⊥) → (t ≡ s → ⊥) ↔ N
-unmoved s t e n = (λ move. absurd (move e), λ c. absurd (n c))
-
-lifted_struck : (b : Bool) (t : Standing) → Next ⊥ Refuted (struck_as b) t → (t ≡ Refuted → ⊥) ↔ (b ≡ true)
-lifted_struck true t e = (λ _. refl, λ _ r. cc)
-lifted_struck false t e = unmoved Refuted t e false≢true
-
-lifted : (e : Event) (h : List Event) (t : Standing) → Tabled h e Refuted t → (t ≡ Refuted → ⊥) ↔ Lifts h e
-lifted (node raw r) h t n = unmoved Refuted t n (λ z. z)
-lifted (enter raw (Ok i)) h t n = unmoved Refuted t n (λ z. z)
-lifted (enter raw (Err f)) h t n = unmoved Refuted t n (λ z. z)
-lifted (strike i (Ok u)) h t n = lifted_struck (names (last_steps h) i) t n
-lifted (strike i (Err f)) h t n = unmoved Refuted t n (λ z. z)
-lifted (refute bs ls (Ok m)) h t n = unmoved Refuted t n (λ z. z)
-lifted (refute bs ls (Err f)) h t n = unmoved Refuted t n (λ z. z)
-lifted (show bs o list (Ok m)) h t n = absurd n
-lifted (show bs o list (Err f)) h t n = unmoved Refuted t n (λ z. z)
-lifted (standing r) h t n = unmoved Refuted t n (λ z. z)
-
-shown_struck : (b : Bool) (t : Standing) → Next ⊥ Shown (struck_as b) t → t ≡ Shown
-shown_struck true t e = e
-shown_struck false t e = e
-
-reopened : (e : Event) (h : List Event) (t : Standing) → Tabled h e Shown t → (t ≡ Shown → ⊥) ↔ Takes e
-reopened (node raw r) h t n = unmoved Shown t n (λ z. z)
-reopened (enter raw (Ok i)) h t n = (λ _. tt, λ _ e. cc)
-reopened (enter raw (Err f)) h t n = unmoved Shown t n (λ z. z)
-reopened (strike i (Ok u)) h t n = unmoved Shown t (shown_struck (names (last_steps h) i) t n) (λ z. z)
-reopened (strike i (Err f)) h t n = unmoved Shown t n (λ z. z)
-reopened (refute bs ls (Ok m)) h t n = absurd n
-reopened (refute bs ls (Err f)) h t n = unmoved Shown t n (λ z. z)
-reopened (show bs o list (Ok m)) h t n = unmoved Shown t n (λ z. z)
-reopened (show bs o list (Err f)) h t n = unmoved Shown t n (λ z. z)
-reopened (standing r) h t n = unmoved Shown t n (λ z. z)
-
-refutes : (e : Event) (h : List Event) (bk : Book) (s t : Standing) → Answered bk s e → Tabled h e s t → Closing bk e → t ≡ Refuted
-refutes (node raw r) h bk s t a n c = absurd c
-refutes (enter raw r) h bk s t a n c = absurd c
-refutes (strike i r) h bk s t a n c = absurd c
-refutes (refute bs ls (Ok m)) h bk s t a n c = closed_next s t n
-refutes (refute bs ls (Err f)) h bk s t a n c = absurd (a.3 c)
-refutes (show bs o list r) h bk s t a n c = absurd c
-refutes (standing r) h bk s t a n c = absurd c
-
-shows : (e : Event) (h : List Event) (bk : Book) (s t : Standing) → Answered bk s e → Tabled h e s t → Modelling bk e → t ≡ Shown
-shows (node raw r) h bk s t a n c = absurd c
-shows (enter raw r) h bk s t a n c = absurd c
-shows (strike i r) h bk s t a n c = absurd c
-shows (refute bs ls r) h bk s t a n c = absurd c
-shows (show bs o list (Ok m)) h bk s t a n c = satisfied_next s t n
-shows (show bs o list (Err f)) h bk s t a n (m, handed, sat, room) =
-    absurd (false≢true ((a.2.models m handed.0 handed.1.0 handed.1.1 room).1 sat))
-shows (standing r) h bk s t a n c = absurd c
-
-step_law : (h : List Event) (s : State) (e : Event) (t : State) → KeptRun h s → Moves e s t → StepLaw h s e t
-step_law h s e t k moves =
-    let answer = answered e s t moves in
-    let table = tabled e h s t k moves in
+-- an accepted tableau names live entries that no model makes true
+refutation_core : (bk : Book) (ls : Lengths) (bs : List ℕ) (n : ℕ) (a : Result Used RefuteFault) → Ok n ≡ result_map_both member_count (λ f. f) a → RefuteAnswer bk ls bs a → Core bk (names (decoded bs))
+refutation_core bk ls bs n (Ok u) is a =
+    let refuted = a.accepted u refl in
+    let r = refuted.refutation in
     record {
-      answer = answer;
+      live = λ i m. ap (λ (l : StoredEntry). l.live) (named_live bk r.tableau i (ap (λ (ss : List Step). names ss i) r.written ∙ m)).1;
+      none = λ m h. refuted.sound m (λ i named. h i named);
+    }
+refutation_core bk ls bs n (Err f) is a = cc
+
+-- a refused call has no change
+lower_backed : {A F : Type 0} (hold : F → Fault) (lower : Result A F) (P : Result A F → Type 0) (bk : Book) (f : A → Change) → ((x : A) → P (Ok x) → Backed bk (f x)) → P lower → Backed bk (if_granted (passed_on hold lower) f)
+lower_backed hold (Ok x) P bk f back p = back x p
+lower_backed hold (Err e) P bk f back p = tt
+
+passed_backed : {A F : Type 0} (hold : F → Fault) (r : Result A Fault) (P : Result A F → Type 0) (bk : Book) (f : A → Change) → ((x : A) → P (Ok x) → Backed bk (f x)) → PassesOn hold r P → Backed bk (if_granted r f)
+passed_backed hold r P bk f back p =
+    subst (λ q. Backed bk (if_granted q f)) (sym p.1) (lower_backed hold p.0 P bk f back p.2)
+
+-- what the answer of a call tells of its change
+pub backed : (e : Event) (bk : Book) (s : Standing) → Answered bk s e → Backed bk (change e)
+backed (node raw r) bk s a = passed_backed fault.Node r _ bk _ (λ i p. (node_granted bk raw p.1.0).1) a
+backed (enter raw r) bk s a = passed_backed fault.Enter r _ bk _ (λ i p. (p.1.1, (entry_granted bk raw p.1.0).1)) a
+backed (strike i r) bk s a = passed_backed fault.Strike r _ bk _ (λ u p. tt) a
+backed (refute bs ls r) bk s a = passed_backed fault.Refute r _ bk _ (λ n p. refutation_core bk ls bs n p.0 p.1 p.2) a
+backed (show bs o list r) bk s a =
+    passed_backed fault.Show r _ bk _ (λ n p. let m = p.answer in (model_of (interpretation_of bs) o m.0.1, (m.3 m.0.1).0)) a
+backed (standing r) bk s a = tt
+
+pub run_new : (s : State) → s.book ≡ empty → s.standing ≡ Open → ((i : ℕ) → s.used i ≡ false) → Run [] s
+run_new s is_empty is_open unused = record { first = s; new = record { book = is_empty; standing = is_open; used = unused }; moved = none }
+
+kept_new : (s : State) → New s → KeptRun [] s
+kept_new s new = record {
+  book = book_new s.book new.book;
+  justified = subst (λ v. Justified v s.book s.used) (sym new.standing) tt;
+  used = fun_ext new.used;
+  stood = subst (Stood []) (sym new.standing) opened;
+}
+
+used_kept : (c : Change) (used : ℕ → Bool) (last : List Step) → used ≡ names last → used_after c used ≡ names (steps_after c last)
+used_kept (tableau_accepted ss) used last e = refl
+used_kept c used last e = e
+
+pub tabled : (e : Event) (h : List Event) (s t : State) → KeptRun h s → Moves e s t → Tabled h e s.standing t.standing
+tabled e h s t k m = record {
+  next = ap (λ (x : State). x.standing) m.state ∙ ap (λ u. standing_after (granted_event u (change e)) s.standing) k.used;
+  occurs = subst (λ u. IfSome (granted_event u (change e)) (λ event. Occurs event s.standing)) k.used (occurs (change e) s.standing s.book s.used (backed e s.book s.standing m.answer) k.justified);
+}
+
+kept_move : (e : Event) (h : List Event) (s t : State) → KeptRun h s → Moves e s t → KeptRun (e ∷ h) t
+kept_move e h s t k m =
+    let b = backed e s.book s.standing m.answer in
+    subst (KeptRun (e ∷ h)) (sym m.state)
+    (record {
+      book = book_kept e h s.book b k.book;
+      justified = justified_after (change e) s.standing s.book s.used k.book.lawful b k.justified;
+      used = used_kept (change e) s.used (last_steps h) k.used;
+      stood = followed k.stood (tabled e h s (after (change e) s) k (record { answer = m.answer; state = refl }));
+    })
+
+kept_moves : (h : List Event) (s t : State) → KeptRun [] s → MovesAll h s t → KeptRun h t
+kept_moves h s t k none = k
+kept_moves h s t k (more {es = es} {e = e} {t = u} ms m) = kept_move e es u t (kept_moves es s u k ms) m
+
+pub kept_run : (h : List Event) (s : State) → Run h s → KeptRun h s
+kept_run h s r = kept_moves h r.first s (kept_new r.first r.new) r.moved
+
+moved_on : (h es : List Event) (s t u : State) → MovesAll h s t → MovesAll es t u → MovesAll (es ++ h) s u
+moved_on h es s t u m none = m
+moved_on h es s t u m (more {es = fs} {t = v} ms x) = more (moved_on h fs s t v m ms) x
+
+pub run_on : (h es : List Event) (s t : State) → Run h s → MovesAll es s t → Run (es ++ h) t
+run_on h es s t r m = record { first = r.first; new = r.new; moved = moved_on h es r.first s t r.moved m }
+
+-- from refuted the table moves at a strike of an entry used alone
+lifted_struck : (b : Bool) → ((if b then Open else Refuted) ≢ Refuted) ↔ (b ≡ true)
+lifted_struck true = (λ _. refl, λ _ r. cc)
+lifted_struck false = (λ move. absurd (move refl), λ e. absurd (false≢true e))
+
+lifted : (used : ℕ → Bool) (c : Change) → (standing_after (granted_event used c) Refuted ≢ Refuted) ↔ ((i : ℕ) × (c ≡ entry_struck i) × (used i ≡ true))
+lifted used (entry_struck i) = (
+  λ move. (i, refl, (lifted_struck (used i)).0 move),
+  λ p. (lifted_struck (used i)).1 (let e : p.0 ≡ i = cc p.1 in ap used (sym e) ∙ p.2),
+)
+lifted used c = (λ move. absurd (move refl), λ p. cc p.1)
+
+-- from shown at an entry taken alone
+reopened : (used : ℕ → Bool) (c : Change) → (standing_after (granted_event used c) Shown ≢ Shown) ↔ ((i : ℕ) × (x : Entry) × (c ≡ entry_taken i x))
+reopened used (entry_taken i x) = (λ _. (i, x, refl), λ _ e. cc)
+reopened used c = (λ move. absurd (move refl), λ p. cc p.2)
+
+closed_next : (s : Standing) → Occurs Closed s → next s Closed ≡ Refuted
+closed_next Open o = refl
+closed_next Refuted o = refl
+closed_next Shown o = absurd o
+
+satisfied_next : (s : Standing) → Occurs Satisfied s → next s Satisfied ≡ Shown
+satisfied_next Open o = refl
+satisfied_next Refuted o = absurd o
+satisfied_next Shown o = refl
+
+passed_ok : {A F : Type 0} (hold : F → Fault) (r : Result A F) → is_ok (passed_on hold r) ≡ is_ok r
+passed_ok hold (Ok x) = refl
+passed_ok hold (Err e) = refl
+
+-- refute accepts what refutes the live entries, and makes the docket refuted
+refute_accepts : (h : List Event) (s t : State) (bs : List ℕ) (ls : Lengths) (r : Result ℕ Fault) → KeptRun h s → Moves (refute bs ls r) s t → Refutation s.book ls bs → IsOk r × (t.standing ≡ Refuted)
+refute_accepts h s t bs ls (Ok n) k m refutation =
+    let table = tabled (refute bs ls (Ok n)) h s t k m in (refl, table.next ∙ closed_next s.standing table.occurs)
+refute_accepts h s t bs ls (Err f) k m refutation = let a = m.answer in let u = a.2.2.accepts refutation in cc (a.1, a.2.1, u.1)
+
+-- show accepts a model of the live entries, and makes the docket shown
+show_accepts : (h : List Event) (s t : State) (bs : List ℕ) (o : Preference) (list : List ℕ) (r : Result ℕ Fault) → KeptRun h s → Moves (show bs o list r) s t → (m : Model) → Handed m bs o → Satisfies m s.book → length s.book.nodes ≤ length list → IsOk r × (t.standing ≡ Shown)
+show_accepts h s t bs o list (Ok n) k move m handed sat room =
+    let table = tabled (show bs o list (Ok n)) h s t k move in (refl, table.next ∙ satisfied_next s.standing table.occurs)
+show_accepts h s t bs o list (Err f) k move m handed sat room =
+    let a = move.answer in
+    let ok = (a.2.models m handed.0 handed.1.0 handed.1.1 room).1 sat in
+    absurd (false≢true (ap is_ok a.1 ∙ passed_ok fault.Show a.0 ∙ ok))
+
+pub models_handed : ModelsEncoded → ModelsHanded
+models_handed encoded m few o strict better =
+    let e = (encoded m few).0 in
+    let f : Compatible (interpretation_of (model_bytes m)) o = record { valid = e.valid; strict = strict; sized = better.size ∙ sym e.size } in
+    (e.bytes, (e.whole, (f, e.means o f better)))
+
+pub tableaux_handed : TableauxHaveBytes → TableauxHanded
+tableaux_handed have bk lawful ls k within fits = let h = have bk lawful.well_formed ls k within fits in (h.bytes, h.refutes)
+
+step_law : ModelsHanded → TableauxHanded → (h : List Event) (s : State) (e : Event) (t : State) → KeptRun h s → Moves e s t → StepLaw h s e t
+step_law handed tableaux h s e t k moves =
+    let table = tabled e h s t k moves in
+    let moved : (x : Event) → e ≡ x → Moves x s t = λ x is. subst (λ y. Moves y s t) is moves in
+    record {
+      answer = moves.answer;
       table = table;
-      from_refuted = λ r. lifted e h t.standing (subst (λ v. Tabled h e v t.standing) r table);
-      from_shown = λ r. reopened e h t.standing (subst (λ v. Tabled h e v t.standing) r table);
-      refutes = refutes e h s.book s.standing t.standing answer table;
-      shows = shows e h s.book s.standing t.standing answer table;
+      unchanged = λ same. moves.state ∙ ap (λ c. after c s) same;
+      from_refuted = λ r. subst (λ v. (v ≢ Refuted) ↔ Lifts h e) (sym (table.next ∙ ap (standing_after _) r)) (lifted (names (last_steps h)) (change e));
+      from_shown = λ r. subst (λ v. (v ≢ Shown) ↔ Takes e) (sym (table.next ∙ ap (standing_after _) r)) (reopened (names (last_steps h)) (change e));
+      refutes = λ (bs, ls, r, is, refutation). (refute_accepts h s t bs ls r k (moved _ is) refutation).1;
+      shows = λ (bs, o, list, r, is, m, means, sat, room). (show_accepts h s t bs o list r k (moved _ is) m means sat room).1;
+      trees = λ tree ls within fits.
+          let b = tableaux s.book k.book.lawful ls tree within fits in (b.0, λ r is. refute_accepts h s t _ ls r k (moved _ is) b.1);
+      models = λ m o few sat strict better.
+          let b = handed m few o strict better in (b.0, λ list r room is. show_accepts h s t _ o list r k (moved _ is) m b.1 sat room);
     }
 
--- the table along the whole history
-stood : (h : List Event) (s t : State) → New s → Moved h s t → Stood h t.standing
-stood h s t new none = subst (Stood []) (sym new.standing) opened
-stood h s t new (then {es = es} {e = e} {t = u} ms m) =
-    followed (stood es s u new ms) (tabled e es u t (kept_run es u (record { first = s; new = new; moved = ms })) m)
-
-pub docket_law : DocketLaw
-docket_law h s r =
+pub docket_law : ModelsHanded → TableauxHanded → DocketLaw
+docket_law models tableaux h s r =
     let k = kept_run h s r in
     record {
       here = record {
@@ -134,16 +202,10 @@ docket_law h s r =
         nodes = k.book.nodes;
         entries = k.book.entries;
         live = k.book.live;
-        used = k.used;
-        standing = stood h r.first s r.new r.moved;
-        refuted = λ e m t. core_no_model s.book s.used (k.standing.core e) m t;
-        shown = k.standing.model;
+        used = λ i. ap (λ f. f i) k.used;
+        standing = k.stood;
+        refuted = λ e. core_no_model s.book s.used (subst (λ v. Justified v s.book s.used) e k.justified);
+        shown = λ e. subst (λ v. Justified v s.book s.used) e k.justified;
       };
-      next = λ e t moves. step_law h s e t k moves;
+      next = λ e t moves. step_law models tableaux h s e t k moves;
     }
-
-pub models_handed : ModelsHanded
-models_handed m few o strict better =
-    let e = (models_encoded m few).0 in
-    let f : Compatible (interpretation_of (model_bytes m)) o = record { valid = e.valid; strict = strict; sized = better.size ∙ sym e.size } in
-    (e.bytes, (e.whole, (f, e.means o f better)))

@@ -4,13 +4,15 @@ pub mod Standings
 pub mod Events
 -- the number and the place of each fault
 pub mod Faults
--- how calls move a docket, and runs
+-- what calls change
+pub mod Changes
+-- what calls answer
+pub mod Answers
+-- how calls move a docket, runs, and what a docket is to its callers
 pub mod Runs
 -- what a history tells
 pub mod Histories
 -- the law of all runs
 pub mod Laws
--- what a docket is to its callers
-pub mod Dockets
 -- which calls a history has
 pub mod Plays

@@ -22,10 +22,14 @@ Asks meaning ls len (Enter raw) e = (r : Result ℕ Fault) × (e ≡ Event.enter
 Asks meaning ls len (Strike i) e = (r : Result (Unit {0}) Fault) × (e ≡ Event.strike i r)
 Asks meaning ls len (Refute bs) e = (r : Result ℕ Fault) × (e ≡ Event.refute bs.now ls r)
 Asks meaning ls len (Show bs o) e =
-    (r : Result ℕ Fault) × (list : List ℕ) × (length list ≡ len) × (e ≡ Event.show bs.now (meaning o) list r)
+    (r : Result ℕ Fault) × (list : List ℕ)
+    × (length list ≡ len) × (e ≡ Event.show bs.now (meaning o) list r)
 Asks meaning ls len Standing e = (r : standings.Standing) × (e ≡ Event.standing r)
 
 -- the history, the newest first, is that of the calls, in their order
-pub data Played {O : Type 0} (meaning : O → Preference) (ls : Lengths) (len : ℕ) : List (Lent O) → List Event → Type 0 where
+pub data Played {O : Type 0} (meaning : O → Preference) (ls : Lengths) (len : ℕ) :
+    List (Lent O) → List Event → Type 0 where
   none : Played meaning ls len [] []
-  more : {cs : List (Lent O)} {h : List Event} (c : Lent O) {e : Event} → Played meaning ls len cs h → Asks meaning ls len c e → Played meaning ls len (cs ++ c ∷ []) (e ∷ h)
+  more : {cs : List (Lent O)} {h : List Event} (c : Lent O) {e : Event} →
+      Played meaning ls len cs h → Asks meaning ls len c e →
+      Played meaning ls len (cs ++ c ∷ []) (e ∷ h)

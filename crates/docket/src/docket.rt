@@ -2,11 +2,12 @@
 ghost use Rattle.std.specs.Prelude.{◌≡◌, List, [], ◌∷◌, IfOk};
 ghost use Rattle.judge.specs.Blanks.{lengths, AllBlank};
 ghost use Rattle.docket.specs.Events.{Event};
-ghost use Rattle.docket.specs.Runs.{Moved, Run};
+ghost use Rattle.docket.specs.Runs.{MovesAll, Run};
 ghost use Rattle.docket.specs.Laws.{LawfulRun};
-ghost use Rattle.docket.specs.Dockets.{at, Reached};
+ghost use Rattle.docket.specs.Runs.{state_of, Reached};
 
 use crate::fault::Fault;
+use crate::laws::docket_law;
 use crate::standing::{Granted, Standing};
 use books::book::EditableBook;
 use judge::refute::refute;
@@ -29,19 +30,19 @@ pub struct Docket<B: EditableBook> {
 
 // To a contract it is a state of a run, and none but those that a run of calls has reached.
 impl<B: EditableBook> Model for Docket<B> {
-    ghost use Rattle.docket.specs.Dockets.{Held, held, Reached};
+    ghost use Rattle.docket.specs.Runs.{Contents, contents, Reached};
 
-    ghost Value = { Held };
+    ghost Value = { Contents };
 
-    ghost view = { λ d. held (B.ReadableBook.meaning d.book) d.standing d.used };
+    ghost view = { λ d. contents (B.ReadableBook.meaning d.book) d.standing d.used };
 
-    ghost invariant = { λ d. Reached (held (B.ReadableBook.meaning d.book) d.standing d.used) };
+    ghost invariant = { λ d. Reached (contents (B.ReadableBook.meaning d.book) d.standing d.used) };
 }
 
 impl<B: EditableBook> Docket<B> {
     // A docket with a new book, empty and open: a run begins.
     pub fn new(heap: Global) -> Result<Docket<B>, AllocError>
-        ensures { IfOk result (λ d. Run [] (at d)) }
+        ensures { IfOk result (λ d. Run [] (state_of d)) }
     {
         let book = B::new(heap)?;
         Ok(Docket {
@@ -54,23 +55,24 @@ impl<B: EditableBook> Docket<B> {
     // Where the docket stands. A run has led here, and of whichever has, the whole law holds.
     pub fn standing(&self) -> Standing
         ensures answer { result ≡ self.now.standing }
-        ensures run { Moved (Event.standing result ∷ []) (at self.now) (at self.now) }
+        ensures run { MovesAll (Event.standing result ∷ []) (state_of self.now) (state_of self.now) }
         ensures reached { Reached self.now }
-        ensures law { (h : List Event) → Run h (at self.now) → LawfulRun h (at self.now) }
+        ensures law { (h : List Event) → Run h (state_of self.now) → LawfulRun h (state_of self.now) }
     {
+        docket_law();
         self.standing
     }
 
     // Appends a node to the book, and answers its number.
     pub fn node(&mut self, raw: RawNode) -> Result<u16, Fault>
-        ensures { Moved (Event.node raw result ∷ []) (at self.old) (at self.new) }
+        ensures { MovesAll (Event.node raw result ∷ []) (state_of self.old) (state_of self.new) }
     {
         Ok(self.book.node(raw)?)
     }
 
     // Appends an entry to the book, and answers its number.
     pub fn enter(&mut self, raw: RawEntry) -> Result<u16, Fault>
-        ensures { Moved (Event.enter raw result ∷ []) (at self.old) (at self.new) }
+        ensures { MovesAll (Event.enter raw result ∷ []) (state_of self.old) (state_of self.new) }
     {
         let i = self.book.enter(raw)?;
         self.standing.follow(Granted::Entered);
@@ -79,14 +81,17 @@ impl<B: EditableBook> Docket<B> {
 
     // Strikes a live entry of the book.
     pub fn strike(&mut self, i: u16) -> Result<(), Fault>
-        ensures { Moved (Event.strike i result ∷ []) (at self.old) (at self.new) }
+        ensures { MovesAll (Event.strike i result ∷ []) (state_of self.old) (state_of self.new) }
     {
         self.book.strike(i)?;
-        self.standing.follow(Granted::struck(self.used.has(i)));
+        self.standing.follow(Granted::Struck {
+            used: self.used.has(i),
+        });
         Ok(())
     }
 
-    // Judges a tableau against the book, and answers how many entries it used. The lists are left blank.
+    // Judges a tableau against the book, and answers how many entries it used. The lists are left
+    // blank.
     pub fn refute(
         &mut self,
         bytes: &[u8],
@@ -94,8 +99,10 @@ impl<B: EditableBook> Docket<B> {
         edges: &mut [Edge],
         splits: &mut [Split],
     ) -> Result<u16, Fault>
-        ensures run { Moved (Event.refute bytes.now (lengths constraints.old edges.old splits.old) result ∷ []) (at self.old) (at self.new) }
-        ensures blank { AllBlank (lengths constraints.old edges.old splits.old) constraints.new edges.new splits.new }
+        ensures run { MovesAll (Event.refute bytes.now (lengths constraints.old edges.old splits.old) result ∷ [])
+            (state_of self.old) (state_of self.new) }
+        ensures blank { AllBlank (lengths constraints.old edges.old splits.old)
+            constraints.new edges.new splits.new }
     {
         let used = refute(&self.book, bytes, constraints, edges, splits)?;
         let count = used.count();
@@ -107,7 +114,8 @@ impl<B: EditableBook> Docket<B> {
     // Judges a model against the book, with an order of any kind, and answers the number of its elements. The
     // list is left as the judge leaves it.
     pub fn show<O: Order>(&mut self, bytes: &[u8], order: &O, list: &mut [u32]) -> Result<u8, Fault>
-        ensures { Moved (Event.show bytes.now (O.Order.meaning order.now) list.new result ∷ []) (at self.old) (at self.new) }
+        ensures { MovesAll (Event.show bytes.now (O.Order.meaning order.now) list.new result ∷ [])
+            (state_of self.old) (state_of self.new) }
     {
         let n = show(&self.book, bytes, order, list)?;
         self.standing.follow(Granted::Satisfied);

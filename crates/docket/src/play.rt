@@ -1,14 +1,16 @@
 // A list of calls, played on a new docket.
-ghost use Rattle.std.specs.Prelude.{List, [], ◌∷◌, length, IfOk};
-ghost use Rattle.judge.specs.Blanks.{lengths};
+ghost use Rattle.std.specs.Prelude.{◌≡◌, List, [], ◌∷◌, length, replicate, IfOk};
+ghost use Rattle.judge.specs.Blanks.{lengths, AllBlank};
 ghost use Rattle.docket.specs.Events.{Event};
-ghost use Rattle.docket.specs.Runs.{Moved, Run};
+ghost use Rattle.docket.specs.Runs.{MovesAll, Run};
 ghost use Rattle.docket.specs.Laws.{LawfulRun};
-ghost use Rattle.docket.specs.Dockets.{at};
+ghost use Rattle.docket.specs.Runs.{state_of};
 ghost use Rattle.docket.specs.Plays.{Asks, Played};
 
 use crate::docket::Docket;
+use crate::laws::docket_law;
 use books::book::EditableBook;
+use judge::lists::clear;
 use judge::working::Split;
 use logic::records::{RawEntry, RawNode};
 use logic::tableau::{Constraint, Edge};
@@ -36,7 +38,10 @@ fn make<B: EditableBook, O: Order>(
     splits: &mut [Split],
     sets: &mut [u32],
 )
-    ensures { (e : Event) × Asks O.Order.meaning (lengths constraints.old edges.old splits.old) (length sets.old) call.now e × Moved (e ∷ []) (at docket.old) (at docket.new) }
+    ensures { (e : Event)
+        × Asks O.Order.meaning (lengths constraints.old edges.old splits.old) (length sets.old)
+        call.now e
+        × MovesAll (e ∷ []) (state_of docket.old) (state_of docket.new) }
 {
     match call {
         Call::Node(raw) => {
@@ -60,8 +65,32 @@ fn make<B: EditableBook, O: Order>(
     }
 }
 
+// Makes the calls, one after the other, on a new docket.
+fn make_all<B: EditableBook, O: Order>(
+    heap: Global,
+    calls: &[Call<&[u8], O>],
+    constraints: &mut [Constraint],
+    edges: &mut [Edge],
+    splits: &mut [Split],
+    sets: &mut [u32],
+) -> Result<Docket<B>, AllocError>
+    ensures { IfOk result (λ d.
+        (h : List Event)
+        × Played O.Order.meaning (lengths constraints.old edges.old splits.old) (length sets.old) calls.now h
+        × Run h (state_of d)
+        × LawfulRun h (state_of d)) }
+{
+    docket_law();
+    let mut docket: Docket<B> = Docket::new(heap)?;
+    for call in calls {
+        make(&mut docket, call, constraints, edges, splits, sets);
+    }
+    Ok(docket)
+}
+
 // Plays the calls, one after the other, on a new docket: a run has led to what is answered, its events are
-// these calls in their order, and the whole law holds of it.
+// these calls in their order, and the whole law holds of it. Whatever is answered, every record of the lent
+// lists is blank afterwards, and every number is 0. The error: no memory for the new book.
 pub fn play<B: EditableBook, O: Order>(
     heap: Global,
     calls: &[Call<&[u8], O>],
@@ -70,11 +99,18 @@ pub fn play<B: EditableBook, O: Order>(
     splits: &mut [Split],
     sets: &mut [u32],
 ) -> Result<Docket<B>, AllocError>
-    ensures { IfOk result (λ d. (h : List Event) × Played O.Order.meaning (lengths constraints.old edges.old splits.old) (length sets.old) calls.now h × Run h (at d) × LawfulRun h (at d)) }
+    ensures run { IfOk result (λ d.
+        (h : List Event)
+        × Played O.Order.meaning (lengths constraints.old edges.old splits.old) (length sets.old) calls.now h
+        × Run h (state_of d)
+        × LawfulRun h (state_of d)) }
+    ensures blank { AllBlank (lengths constraints.old edges.old splits.old) constraints.new edges.new splits.new }
+    ensures zeros { sets.new ≡ replicate (length sets.old) 0 }
 {
-    let mut docket: Docket<B> = Docket::new(heap)?;
-    for call in calls {
-        make(&mut docket, call, constraints, edges, splits, sets);
-    }
-    Ok(docket)
+    let docket = make_all(heap, calls, constraints, edges, splits, sets);
+    clear(constraints);
+    clear(edges);
+    clear(splits);
+    clear(sets);
+    docket
 }

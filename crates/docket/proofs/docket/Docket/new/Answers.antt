@@ -1,20 +1,9 @@
 use Rattle.std.proofs.Common.{[], refl}
-use Rattle.docket.specs.Runs.{Moved.none}
+use Rattle.docket.proofs.Law.{run_new}
 use Rattle.docket.proofs.docket.Docket.new.Goals as goal
 
 pub returns : goal.returns
-returns g c = record {
-  first = _;
-  new = record { book = c.in_ok-book.ensures; standing = refl; used = c.new-2.ensures.empty };
-  moved = none;
-}
+returns g c = run_new _ c.in_ok-book.ensures refl c.new-2.ensures.empty
 
 pub invariant_of-result : goal.invariant_of-result
-invariant_of-result g c = (
-  [],
-  record {
-    first = _;
-    new = record { book = c.in_ok-book.ensures; standing = refl; used = c.new-2.ensures.empty };
-    moved = none;
-  },
-)
+invariant_of-result g c = ([], run_new _ c.in_ok-book.ensures refl c.new-2.ensures.empty)

@@ -1,15 +1,15 @@
-use Rattle.std.proofs.Common.{Ok, refl}
-use Rattle.docket.specs.Events.{Event.node}
+use Rattle.std.proofs.Common.{Ok, Err, refl}
+use Rattle.books.specs.Calls.{BookCall.node}
 use Rattle.logic.proofs.Mapping.{err_is}
-use Rattle.docket.proofs.Calls.{one, on}
+use Rattle.docket.proofs.Calls.{one, on, book_moves}
 use Rattle.docket.proofs.docket.Docket.node.Goals as goal
 
 pub returns-in_err-node : goal.returns-in_err-node
 returns-in_err-node g c =
-    rw (err_is _ c.from_residual.ensures.1, ← c.self.view_is) (one (_, refl, c.in_err-node.ensures.answer, record { standing = refl; used = refl }))
+    rw (err_is _ c.from_residual.ensures.1, ← c.self.view_is) (one (book_moves (node c.args.raw (Err _)) _ _ c.in_err-node.ensures.answer refl refl))
 
 pub returns : goal.returns
-returns g c = rw (← c.self.view_is) (one (c.in_ok-node.ensures.answer, record { standing = refl; used = refl }))
+returns g c = rw (← c.self.view_is) (one (book_moves (node c.args.raw (Ok _)) _ _ c.in_ok-node.ensures.answer refl refl))
 
 pub invariant_of-self-2 : goal.invariant_of-self-2
-invariant_of-self-2 g c = on (node c.args.raw (Ok c.in_ok-node.field-0)) _ _ c.self.invariant (c.in_ok-node.ensures.answer, record { standing = refl; used = refl })
+invariant_of-self-2 g c = on _ _ _ c.self.invariant (book_moves (node c.args.raw (Ok _)) _ _ c.in_ok-node.ensures.answer refl refl)

@@ -2,9 +2,8 @@ use Rattle.std.proofs.Common.{◌≡◌, ◌+◌, [], ◌∷◌, ◌++◌, lengt
 use Rattle.std.proofs.lemmas.List.{take_more, take_all}
 use Rattle.judge.specs.Blanks.{lengths}
 use Rattle.docket.specs.Plays.{Asks, Played, Played.none, Played.more}
-use Rattle.docket.proofs.Kept.{run_on}
-use Rattle.docket.proofs.Law.{docket_law}
-use Rattle.docket.proofs.play.play.Goals as goal
+use Rattle.docket.proofs.Law.{run_on}
+use Rattle.docket.proofs.play.make_all.Goals as goal
 
 pub loop-call-init : goal.loop-call-init
 loop-call-init g c = ([], none, c.in_ok-docket.ensures)
@@ -33,5 +32,5 @@ returns g c =
       all.0,
       subst (λ cs. Played g.O.Order.meaning ls (length c.args.sets.now) cs all.0) (take_all _ _ c.loop-call-test.false) all.1,
       all.2,
-      docket_law all.0 _ all.2,
+      c.docket_law.ensures.law all.0 _ all.2,
     )
