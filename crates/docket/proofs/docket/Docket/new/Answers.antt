@@ -3,7 +3,7 @@ use Rattle.docket.proofs.Law.{run_new}
 use Rattle.docket.proofs.docket.Docket.new.Goals as goal
 
 pub returns : goal.returns
-returns g c = run_new _ c.in_ok-book.ensures refl c.new-2.ensures.empty
+returns g c = run_new _ c.in_ok-book.ensures refl c.new-2.ensures
 
 pub invariant_of-result : goal.invariant_of-result
-invariant_of-result g c = ([], run_new _ c.in_ok-book.ensures refl c.new-2.ensures.empty)
+invariant_of-result g c = ([], run_new _ c.in_ok-book.ensures refl c.new-2.ensures)
