@@ -1,5 +1,5 @@
-// The records of a book, in a working book. Where a record is not taken, which a lawful book leaves no reason for, or
-// where there is no memory, there is no copy.
+// Copies a book into a working book, record by record. There is no copy if memory is short or if a record is refused; the
+// records of a lawful book are never refused.
 ghost use Rattle.std.specs.Prelude.{◌≡◌, ◌+◌, ◌<◌, length, IfSome};
 ghost use Rattle.logic.specs.Books.{empty};
 ghost use Rattle.repeats.specs.Copies.{copied_nodes, copied_entries};
@@ -8,7 +8,7 @@ use books::book::{EditableBook, ReadableBook};
 use logic::records::{RawEntry, RawNode};
 use std::alloc::Global;
 
-// The nodes, into an empty book.
+// Copies the nodes into an empty book.
 fn copy_nodes<B: ReadableBook, W: EditableBook>(book: &B, copy: &mut W) -> Option<()>
     requires { W.ReadableBook.meaning copy.old ≡ empty }
     ensures { IfSome result (λ _. W.ReadableBook.meaning copy.new ≡ copied_entries (B.meaning book.now) 0) }
@@ -21,7 +21,7 @@ fn copy_nodes<B: ReadableBook, W: EditableBook>(book: &B, copy: &mut W) -> Optio
     Some(())
 }
 
-// Entry j with its mark, behind those before it.
+// Copies entry j with its mark. The entries before it are there already.
 fn copy_entry<B: ReadableBook, W: EditableBook>(book: &B, j: u16, copy: &mut W) -> Option<()>
     requires within { j < length (B.meaning book.now).entries }
     requires before { W.ReadableBook.meaning copy.old ≡ copied_entries (B.meaning book.now) j }
@@ -40,7 +40,7 @@ fn copy_entry<B: ReadableBook, W: EditableBook>(book: &B, j: u16, copy: &mut W) 
     }
 }
 
-// The entries with their marks, behind the nodes.
+// Copies the entries with their marks. The nodes are there already.
 fn copy_entries<B: ReadableBook, W: EditableBook>(book: &B, copy: &mut W) -> Option<()>
     requires { W.ReadableBook.meaning copy.old ≡ copied_entries (B.meaning book.now) 0 }
     ensures { IfSome result (λ _. W.ReadableBook.meaning copy.new ≡ B.meaning book.now) }
@@ -51,7 +51,7 @@ fn copy_entries<B: ReadableBook, W: EditableBook>(book: &B, copy: &mut W) -> Opt
     Some(())
 }
 
-// A working book that means the same.
+// A working book that means the same as the given book, or `None` if there is no memory.
 pub(crate) fn copied<B: ReadableBook, W: EditableBook>(heap: Global, book: &B) -> Option<W>
     ensures { IfSome result (λ w. W.ReadableBook.meaning w ≡ B.meaning book.now) }
 {

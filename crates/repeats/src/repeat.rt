@@ -15,24 +15,22 @@ use orders::order::Order;
 use orders::pairs::Pairs;
 use sealed::sealed_book::SealedBook;
 use std::alloc::Global;
+use verdict::mark::RECORDS;
 use verdict::mark_fault::MarkFault;
 
-// How many records each working list has.
-const RECORDS: usize = 4096;
-
-// What came of a hand-in, as it crosses to C.
+/// The outcome of a hand-in, for callers in C.
 #[repr(C)]
 #[derive(Clone, Copy)]
 pub struct Outcome {
-    // 0 where there was no memory for the book, 1 accepted, 2 refused
+    /// 0: there was no memory for the book; 1: accepted; 2: refused.
     pub kind: u32,
-    // entries used, or elements; or the number of the refusal
+    /// How many entries were used, or how many elements the model has; or the number of the refusal.
     pub number: u32,
-    // the place of the refusal, otherwise 0
+    /// The place of the refusal, otherwise 0.
     pub place: usize,
 }
 
-// Judges a tableau so many times, and once more for the answer.
+// Judges a tableau `times` times, and once more for the answer.
 fn refuted<B: ReadableBook>(book: &B, steps: &[u8], times: u32) -> Result<u16, MarkFault>
     ensures { RefutedBy (B.meaning book.now) steps.now result }
 {
@@ -46,7 +44,7 @@ fn refuted<B: ReadableBook>(book: &B, steps: &[u8], times: u32) -> Result<u16, M
     Ok(used.count())
 }
 
-// The same of a model.
+// Judges a model `times` times, and once more for the answer.
 fn satisfied<B: ReadableBook, O: Order>(
     book: &B,
     model: &[u8],
@@ -89,12 +87,12 @@ const NO_MEMORY: Outcome = Outcome {
     place: 0,
 };
 
-// How a book is kept; any other number is as the first.
+// How the book is kept while it is judged. For any other number it stays within its bytes.
 const SLOT_TABLE: u8 = 1;
 
 const JOURNAL: u8 = 2;
 
-// What the marker answers to a tableau, or nothing where there is no memory.
+// What the marker answers to a tableau, or `None` if there is no memory.
 fn tableau(
     heap: Global,
     kept: u8,
@@ -119,7 +117,7 @@ fn tableau(
     })
 }
 
-// What the marker answers to a model, or nothing where there is no memory.
+// What the marker answers to a model, or `None` if there is no memory.
 fn model(
     heap: Global,
     kept: u8,
@@ -155,7 +153,7 @@ fn model(
     })
 }
 
-// Judges a tableau `times` times and once more, against the sealed book in a slot table, in a journal or as it is.
+/// Judges a tableau `times` times and once more, against the sealed book in a slot table, in a journal or as it is.
 #[unsafe(no_mangle)]
 pub extern "C" fn vuhlaten_repeat_tableau(
     heap: Global,
@@ -173,7 +171,7 @@ pub extern "C" fn vuhlaten_repeat_tableau(
     }
 }
 
-// The same of a model, with its "better" in pairs.
+/// Judges a model, with its "better" in pairs, in the same way.
 #[unsafe(no_mangle)]
 pub extern "C" fn vuhlaten_repeat_model(
     heap: Global,
