@@ -5,7 +5,7 @@ use std::path::Path;
 
 /// The repository's static libraries, and the C part of their standard library.
 const LIBRARIES: [(&str, &str); 3] =
-    [("VUHLATEN_BRIDGE", "bridge"), ("VUHLATEN_REPEATS", "repeats"), ("VUHLATEN_LIBC", "libc_c")];
+    [("VUHLATEN_LIB", "vuhlaten"), ("VUHLATEN_REPEATS", "repeats"), ("VUHLATEN_LIBC", "libc_c")];
 
 fn main() {
     for (variable, name) in LIBRARIES {

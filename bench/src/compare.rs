@@ -6,12 +6,12 @@ use bench::hand_ins::{HandIn, Work, hand_in};
 use bench::reference::marking::Verdict;
 use bench::reference::repeat::{Kept, repeat_model, repeat_tableau};
 
-use crate::proved::{self, LONGEST_LINE, Outcome};
+use crate::proved::{self, LONGEST_LINE, Numbers, Outcome};
 
 /// So many differences are told one by one.
 const TOLD: usize = 20;
 
-/// Marks hand-ins by both and compares the lines, and judges them against books in slot tables and in journals.
+/// Marks hand-ins by both and compares the lines and the verdicts as numbers, and judges them against books in slot tables and in journals.
 /// Answers what was reached, or how many hand-ins differ.
 pub fn compare(seed: u64, number: u64) -> Result<Coverage, String> {
     let mut coverage = Coverage::new();
@@ -23,7 +23,7 @@ pub fn compare(seed: u64, number: u64) -> Result<Coverage, String> {
         let mut random = Random::new(!seed, i);
         let lines = differing_line(&hand_in, verdict, &mut random);
         let kept = Kept::ALL.iter().find_map(|&kept| differing_outcome(&hand_in, kept));
-        if let Some(difference) = lines.or(kept) {
+        if let Some(difference) = lines.or_else(|| differing_numbers(&hand_in, verdict)).or(kept) {
             differences += 1;
             if differences <= TOLD {
                 println!("hand-in {i}: {difference}");
@@ -55,6 +55,12 @@ fn differing_line(hand_in: &HandIn, verdict: Verdict, random: &mut Random) -> Op
         }
     }
     None
+}
+
+/// How the verdict as numbers differs, if it does.
+fn differing_numbers(hand_in: &HandIn, verdict: Verdict) -> Option<String> {
+    let (plain, proved) = (Numbers::from(verdict), proved::judge(hand_in));
+    (plain != proved).then(|| format!("plain {plain:?}, proved {proved:?}"))
 }
 
 /// How the outcome over a kind of book differs from that of the plain judge, if it does.

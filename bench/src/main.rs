@@ -19,7 +19,7 @@ use bench::hand_ins::hand_in;
 const HELP: &str = "\
 bench coverage        marks random hand-ins by the plain marker, and counts what they reach
 bench compare         marks random hand-ins by the plain and by the proved marker, and compares the lines
-bench speed [WORD]    measures both; with a word, only the rows that have it
+bench speed [WORD]    measures both; with a word, only the rows that have it; status 3 if the goal is missed
 bench hand-ins DIR    writes random hand-ins as folders, each with the line that is expected of the marker
 
 --number N            so many hand-ins
@@ -87,30 +87,38 @@ fn all_reached(coverage: &Coverage, number: u64) -> Result<(), String> {
     Err(told)
 }
 
-fn run() -> Result<(), String> {
+/// The status of a run that went well and missed the goal.
+#[cfg(feature = "proved")]
+const GOAL_MISSED: u8 = 3;
+
+#[cfg(feature = "proved")]
+fn speed(seed: u64, word: &str) -> Result<ExitCode, String> {
+    let is_met = speed::speed(seed, word)?;
+    Ok(if is_met { ExitCode::SUCCESS } else { ExitCode::from(GOAL_MISSED) })
+}
+
+fn run() -> Result<ExitCode, String> {
     let options = options(std::env::args().skip(1))?;
     let words: Vec<&str> = options.words.iter().map(String::as_str).collect();
     match words[..] {
-        ["coverage"] => coverage(options.seed, options.number.unwrap_or(REACHING)),
         #[cfg(feature = "proved")]
-        ["compare"] => compare(options.seed, options.number.unwrap_or(REACHING)),
+        ["speed"] => return speed(options.seed, ""),
         #[cfg(feature = "proved")]
-        ["speed"] => speed::speed(options.seed, ""),
+        ["speed", word] => return speed(options.seed, word),
+        ["coverage"] => coverage(options.seed, options.number.unwrap_or(REACHING))?,
         #[cfg(feature = "proved")]
-        ["speed", word] => speed::speed(options.seed, word),
+        ["compare"] => compare(options.seed, options.number.unwrap_or(REACHING))?,
         ["hand-ins", folder] => folders::write(Path::new(folder), options.seed, options.number.unwrap_or(1_000))
-            .map_err(|error| format!("{folder}: {error}")),
-        [] | ["help"] => {
-            print!("{HELP}");
-            Ok(())
-        }
-        _ => Err(format!("unknown command\n{HELP}")),
+            .map_err(|error| format!("{folder}: {error}"))?,
+        [] | ["help"] => print!("{HELP}"),
+        _ => return Err(format!("unknown command\n{HELP}")),
     }
+    Ok(ExitCode::SUCCESS)
 }
 
 fn main() -> ExitCode {
     match run() {
-        Ok(()) => ExitCode::SUCCESS,
+        Ok(status) => status,
         Err(message) => {
             eprintln!("bench: {message}");
             ExitCode::FAILURE

@@ -8,7 +8,7 @@ use bench::reference::repeat::Kept;
 /// So many bytes hold every line.
 pub const LONGEST_LINE: usize = 33;
 
-// As the crates `bridge` and `repeats` export them; nothing compares the declarations.
+// As the crates `vuhlaten` and `repeats` export them; nothing compares the declarations.
 unsafe extern "C" {
     fn vuhlaten_mark_tableau(
         book: *const u8,
@@ -30,6 +30,17 @@ unsafe extern "C" {
         out_length: usize,
     ) -> usize;
 
+    fn vuhlaten_judge_tableau(book: *const u8, book_length: usize, steps: *const u8, steps_length: usize) -> Numbers;
+
+    fn vuhlaten_judge_model(
+        book: *const u8,
+        book_length: usize,
+        model: *const u8,
+        model_length: usize,
+        pairs: *const u8,
+        pairs_length: usize,
+    ) -> Numbers;
+
     fn vuhlaten_repeat_tableau(
         kept: u8,
         times: u32,
@@ -49,6 +60,28 @@ unsafe extern "C" {
         pairs: *const u8,
         pairs_length: usize,
     ) -> Outcome;
+}
+
+/// `struct vuhlaten_verdict` of the header.
+#[repr(C)]
+#[derive(Clone, Copy, Debug, PartialEq, Eq)]
+pub struct Numbers {
+    kind: u32,
+    number: u32,
+    place: u32,
+    count: u32,
+}
+
+impl From<Verdict> for Numbers {
+    fn from(verdict: Verdict) -> Numbers {
+        match verdict {
+            Verdict::Closed { entries } => Numbers { kind: 1, number: 0, place: 0, count: entries as u32 },
+            Verdict::Satisfied { elements } => Numbers { kind: 2, number: 0, place: 0, count: elements as u32 },
+            Verdict::Refused(refusal) => {
+                Numbers { kind: 3, number: refusal.why.number(), place: refusal.place as u32, count: 0 }
+            }
+        }
+    }
 }
 
 /// What came of a hand-in: 0 where there was no memory, 1 and how many entries or elements, or 2 with the number and the
@@ -90,6 +123,27 @@ pub fn mark(hand_in: &HandIn, out: &mut [u8]) -> usize {
                 pairs.len(),
                 out.as_mut_ptr(),
                 out.len(),
+            )
+        },
+    }
+}
+
+/// The verdict as numbers.
+pub fn judge(hand_in: &HandIn) -> Numbers {
+    let book = &hand_in.book;
+    // SAFETY: as above.
+    match &hand_in.work {
+        Work::Tableau { steps } => unsafe {
+            vuhlaten_judge_tableau(book.as_ptr(), book.len(), steps.as_ptr(), steps.len())
+        },
+        Work::Model { interpretation, pairs } => unsafe {
+            vuhlaten_judge_model(
+                book.as_ptr(),
+                book.len(),
+                interpretation.as_ptr(),
+                interpretation.len(),
+                pairs.as_ptr(),
+                pairs.len(),
             )
         },
     }

@@ -141,9 +141,12 @@ struct Table<'a> {
     over: Vec<String>,
 }
 
-/// The goal for books within their bytes and in slot tables, and what no ratio may exceed.
+/// The goal: the ratio that a task may have, proved to plain. A journal scans its records, and has more.
 const GOAL: f64 = 1.0;
-const MOST: f64 = 1.5;
+const GOAL_OF_JOURNALS: f64 = 1.5;
+
+/// A ratio may be so much over the goal, since it moves from run to run and with where the linker puts a function.
+const NOISE: f64 = 0.15;
 
 impl Table<'_> {
     /// Measures a task. Growth is beside what was measured before.
@@ -159,16 +162,17 @@ impl Table<'_> {
             None => format!("{:>8} {:>8}", "", ""),
         };
         println!("{name:<44} {:>11.2} {:>11.2} {ratio:>7.2} {told}", measured.proved * 1e6, measured.plain * 1e6);
-        let limit = if name.contains("journal") { MOST } else { GOAL };
-        if ratio > limit {
-            self.over.push(format!("{}: {ratio:.2}, wanted at most {limit:.1}", name.trim()));
+        let goal = if name.contains("journal") { GOAL_OF_JOURNALS } else { GOAL };
+        if ratio > goal + NOISE {
+            self.over.push(format!("{}: {ratio:.2}, wanted at most {goal:.2} + {NOISE:.2}", name.trim()));
         }
         Some(measured)
     }
 }
 
-/// Measures, and prints a row for each task; with a word, those alone whose row has the word.
-pub fn speed(seed: u64, word: &str) -> Result<(), String> {
+/// Measures, and prints a row for each task; with a word, those alone whose row has the word. Answers whether the goal was
+/// met.
+pub fn speed(seed: u64, word: &str) -> Result<bool, String> {
     println!("Microseconds of processor time, in the median of {TURNS} turns; both in turn, in one process, on the");
     println!("same bytes. Working lists of 4,096 records are lent anew for each whole hand-in, and once for all");
     println!("judgements of a turn; each judgement blanks them, in both. Caches are not cleared between two times.");
@@ -198,10 +202,10 @@ pub fn speed(seed: u64, word: &str) -> Result<(), String> {
         table.row(&format!("  model, {}", told(kept)), &judged(&model, kept), None);
     }
     match &table.over[..] {
-        [] => println!("all within the goal"),
-        over => println!("over the goal:\n  {}", over.join("\n  ")),
+        [] => println!("goal met: every ratio is within its goal and the margin for noise"),
+        over => println!("goal missed:\n  {}", over.join("\n  ")),
     }
-    Ok(())
+    Ok(table.over.is_empty())
 }
 
 fn rows<'a>(table: &mut Table<'_>, hand_ins: &'a [HandIn], name: &str, task: &dyn Fn(&'a HandIn) -> Task<'a>) {

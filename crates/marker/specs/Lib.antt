@@ -1,2 +1,0 @@
--- the verdict on a hand-in as it was read
-pub mod HandIns

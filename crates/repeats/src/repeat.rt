@@ -15,20 +15,18 @@ use orders::order::Order;
 use orders::pairs::Pairs;
 use sealed::sealed_book::SealedBook;
 use std::alloc::Global;
+use verdict::mark::RECORDS;
 use verdict::mark_fault::MarkFault;
 
-// The length of each working list.
-const RECORDS: usize = 4096;
-
-// The outcome of a hand-in, in C's layout.
+/// The outcome of a hand-in, in C's layout.
 #[repr(C)]
 #[derive(Clone, Copy)]
 pub struct Outcome {
-    // 0: no memory for the book; 1: accepted; 2: refused
+    /// 0: no memory for the book; 1: accepted; 2: refused.
     pub kind: u32,
-    // the number of entries used or of elements; or the refusal's number
+    /// The number of entries used or of elements; or the refusal's number.
     pub number: u32,
-    // the refusal's place; 0 if accepted
+    /// The refusal's place; 0 if accepted.
     pub place: usize,
 }
 
@@ -155,7 +153,7 @@ fn model(
     })
 }
 
-// Judges a tableau `times` + 1 times, against the sealed book as `kept` says.
+/// Judges a tableau `times` + 1 times, against the sealed book as `kept` says.
 #[unsafe(no_mangle)]
 pub extern "C" fn vuhlaten_repeat_tableau(
     heap: Global,
@@ -173,7 +171,7 @@ pub extern "C" fn vuhlaten_repeat_tableau(
     }
 }
 
-// Judges a model, with its "better" in pairs, `times` + 1 times, against the sealed book as `kept` says.
+/// Judges a model, with its "better" in pairs, `times` + 1 times, against the sealed book as `kept` says.
 #[unsafe(no_mangle)]
 pub extern "C" fn vuhlaten_repeat_model(
     heap: Global,

@@ -1,4 +1,4 @@
--- The sample rows: for each input, how every outcome is that keeps the promise of the call.
+-- The sample rows: for each sample input the contract can be met, and only by the expected answer.
 -- Gives: the outcomes of a call. RefusedAt: a refusal by number and place. pairs, lists: what is handed over.
 -- FillPairs, FillRanks, ShowSample, Refute: the promises of calls. Samples: what the samples are. Rows: the rows.
 -- Assumes nothing.
@@ -41,7 +41,7 @@ pub record CallOutcome (R S : Type 0) : Type 0 where
   pub answer : R
   pub left : S
 
--- some outcome keeps the promise, and every outcome that keeps it is as the row says
+-- some outcome meets the contract, and every outcome that meets it is as the row says
 pub record Gives {A : Type 0} (Promise Row : A → Type 0) : Type 0 where
   pub some : (a : A) × Promise a
   pub every : (a : A) → Promise a → Row a
@@ -54,11 +54,11 @@ RefusedAt number_of place_of number place r = IsErrAnd r (λ f. (number_of f ≡
 abbrev pub pairs : ℕ → ℕ → List ℕ
 pairs first second = u32_bytes first ++ u32_bytes second
 
--- an order is filled, with this fault if it is refused
+-- the outcome of a fill: its answer, and the order that is left
 abbrev pub Filling : Type 0 → Type 0
 Filling Fault = CallOutcome (Result (Unit {0}) Fault) Preference
 
--- pairs, or ranks, are filled from bytes; they meant the order `before`, and are left with another
+-- Pairs, or ranks, are filled from bytes. They meant the order `before`.
 abbrev pub FillPairs : List ℕ → Preference → Filling PairsFault → Type 0
 FillPairs bs before fill = FillAnswer PairsLawful order_of_pairs PairsRefused before fill.left bs fill.answer
 
@@ -85,7 +85,7 @@ SealSample out seal = SealAnswer sample out seal.left seal.answer
 abbrev pub OfferNode : RawNode → CallOutcome (Result ℕ (OfferFault RawNode)) Book → Type 0
 OfferNode raw offer = OfferAnswer nodes sample offer.left raw offer.answer
 
--- the first n bytes of a buffer end in the bytes of this list
+-- the last of the first n bytes of a buffer are this list
 abbrev pub Ends : List ℕ → ℕ → List ℕ → Type 0
 Ends bytes n out = slice_range out (n - length bytes) n ≡ bytes
 

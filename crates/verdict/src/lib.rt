@@ -7,13 +7,13 @@ pub mod mark;
 pub mod mark_fault;
 pub mod rows;
 
-// What came of a hand-in.
+/// The verdict on a hand-in.
 #[derive(Clone, Copy)]
 pub enum Verdict {
-    // a closed tableau, with how many entries it used
+    /// A closed tableau, and the number of entries that it used.
     Closed(u32),
-    // a model, with how many elements it has
+    /// A model of the book, and the number of its elements.
     Satisfied(u32),
-    // with the refusal's number and its place
+    /// Refused: the number of the refusal, and its place.
     Refused { number: u32, place: u32 },
 }

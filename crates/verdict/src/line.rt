@@ -7,10 +7,10 @@ use crate::Verdict;
 use itoa::Buffer;
 use logic::refusal::BadLength;
 
-// The length of a buffer that is too short.
+/// The buffer has fewer than 33 bytes.
 pub type LineFault = BadLength<20>;
 
-// As long as the longest line, `refused 4294967295 at 4294967295` and a line feed.
+/// The length of the longest line: `refused 4294967295 at 4294967295` and a line feed.
 pub const LONGEST: usize = 33;
 
 // A lent buffer that is written from the front on.
@@ -21,7 +21,7 @@ struct Cursor<'a> {
     at: usize,
 }
 
-// Numbers by `itoa`: std's `write!` says what it wrote on `Ok` alone, and no contract rules out its `Err`.
+// Decimals are those of the library `itoa`, whose contract gives the digits.
 impl Cursor<'_> {
     fn text(&mut self, text: &[u8])
         requires { self.old.at + length text.now ≤ length self.old.out.now }
@@ -32,7 +32,7 @@ impl Cursor<'_> {
         self.at = end;
     }
 
-    // In decimal, at most ten digits.
+    // The number in decimal, at most ten digits.
     #[tactic(auto, using(crate::proofs::Decimals::same))]
     fn number(&mut self, n: u32)
         requires { self.old.at + 10 ≤ length self.old.out.now }
@@ -42,7 +42,7 @@ impl Cursor<'_> {
         self.text(Buffer::new().format(n).as_bytes());
     }
 
-    // The line but for its line feed.
+    // The line without its line feed.
     fn verdict(&mut self, verdict: Verdict)
         requires { self.old.at + 32 ≤ length self.old.out.now }
         ensures written { Appends (text_of verdict) self.old self.new }
@@ -67,7 +67,8 @@ impl Cursor<'_> {
     }
 }
 
-// Writes the line of a verdict at the front of a buffer and answers the length; bytes past it stay.
+/// Writes the line of a verdict at the front of a buffer and answers its length. The bytes past it stay. A buffer of fewer
+/// than `LONGEST` bytes is refused and stays as it was.
 pub fn line(verdict: Verdict, out: &mut [u8]) -> Result<usize, LineFault>
     ensures { LineAnswer verdict out.old out.new result }
 {

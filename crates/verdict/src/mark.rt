@@ -13,11 +13,11 @@ use logic::refusal::{Refusal, Report};
 use orders::pairs::Pairs;
 use sealed::sealed_book::SealedBook;
 
-// How many bytes of a file are the whole.
+/// How many bytes of a file count.
 pub const WHOLE: usize = 65535;
 
-// How many records each working list has.
-const RECORDS: usize = 4096;
+/// The length of each working list.
+pub const RECORDS: usize = 4096;
 
 // The first 65,535 bytes.
 fn first(bytes: &[u8]) -> &[u8]
@@ -26,7 +26,7 @@ fn first(bytes: &[u8]) -> &[u8]
     bytes.get(..WHOLE).unwrap_or(bytes)
 }
 
-// How many entries a tableau uses that refutes the sealed book.
+// Checks the book and refutes it: the number of entries used, or the first fault.
 fn refuted(book: &[u8], steps: &[u8]) -> Result<u16, MarkFault>
     ensures { TableauAnswer book.now steps.now result }
 {
@@ -38,7 +38,7 @@ fn refuted(book: &[u8], steps: &[u8]) -> Result<u16, MarkFault>
     Ok(used.count())
 }
 
-// How many elements a model has that satisfies the sealed book.
+// Checks the book, fills the pairs and shows the model: the number of elements, or the first fault.
 fn satisfied(book: &[u8], model: &[u8], pairs: &[u8]) -> Result<u8, MarkFault>
     ensures { ModelAnswer book.now model.now pairs.now result }
 {
@@ -49,7 +49,7 @@ fn satisfied(book: &[u8], model: &[u8], pairs: &[u8]) -> Result<u8, MarkFault>
     Ok(show(&sealed, model, &order, &mut sets)?)
 }
 
-// A fault by its number and its place.
+// The verdict of a fault: its number and its place.
 fn refused(fault: MarkFault) -> Verdict
     requires { mark_fault_place fault < 2 ^ 32 }
     ensures { result ≡ verdict.Refused (mark_fault_number fault) (mark_fault_place fault) }
@@ -61,7 +61,7 @@ fn refused(fault: MarkFault) -> Verdict
     }
 }
 
-// Marks a tableau against a sealed book. Of each the first 65,535 bytes are the whole.
+/// Marks a tableau against a sealed book. Only the first 65,535 bytes of each count.
 pub fn mark_tableau(book: &[u8], steps: &[u8]) -> Verdict
     ensures { TableauMark (marked_part book.now) (marked_part steps.now) result }
 {
@@ -71,7 +71,7 @@ pub fn mark_tableau(book: &[u8], steps: &[u8]) -> Verdict
     }
 }
 
-// Marks a model, with its "better" in pairs, against a sealed book. Of each the first 65,535 bytes are the whole.
+/// Marks a model, with its "better" in pairs, against a sealed book. Only the first 65,535 bytes of each count.
 pub fn mark_model(book: &[u8], model: &[u8], pairs: &[u8]) -> Verdict
     ensures { ModelMark (marked_part book.now) (marked_part model.now) (marked_part pairs.now) result }
 {

@@ -1,4 +1,4 @@
-// Why a hand-in is refused: the fault of the part that refused it, whole.
+// Why a hand-in is refused: the fault of the call that refused it.
 ghost use Rattle.std.specs.Prelude.{◌≡◌};
 ghost use Rattle.verdict.specs.MarkFaults.{mark_fault_number, mark_fault_place};
 ghost use Rattle.verdict.specs.declared.mark_fault.MarkFault.TheVariants.{Check, Pairs, Refute, Show};

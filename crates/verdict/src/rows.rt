@@ -1,7 +1,7 @@
-// The sample rows, on the contract of a function that does nothing. The program `rows` runs them.
+// The sample rows as one theorem. The program `rows` runs the same inputs.
 ghost use Rattle.verdict.specs.Rows.{Rows};
 
-// For each sample input some outcome keeps the promise of the call, and every outcome that keeps it is as the row says.
+/// For each sample input the contract can be met, and only by the expected answer.
 pub fn rows_hold()
     ensures { Rows }
 {}

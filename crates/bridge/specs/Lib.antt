@@ -1,2 +1,0 @@
--- what a caller's buffer holds
-pub mod Buffers

@@ -1,0 +1,2 @@
+-- the files of a folder in memory
+pub mod Memory

@@ -1,0 +1,5 @@
+// Marking for callers in C. `include/vuhlaten.h` says what each call does and what it asks of its caller.
+#![tactic(auto)]
+
+pub mod mark;
+pub mod outcome;
