@@ -62,7 +62,7 @@ pub(crate) fn cut_back<T: Blank>(list: &mut [T], to: usize, len: usize)
 }
 
 // Blanks the whole list.
-pub(crate) fn clear<T: Blank>(list: &mut [T])
+pub fn clear<T: Blank>(list: &mut [T])
     ensures { list.new ≡ replicate (length list.old) T.zeroed }
 {
     list.fill_with(|| T::blank());
