@@ -27,6 +27,7 @@ use Rattle.judge.specs.declared.step_fault.StepFault.{StepFault}
 use Rattle.judge.specs.declared.step_fault.StepFault.TheVariants.{Malformed, NeverEntered, NotThere, Struck, Misfit}
 use Rattle.judge.specs.Blanks.{no_constraint, no_edge}
 use Rattle.judge.specs.Ops.{op_of, operand_of, names_entry, unused_not_zero, has_operand}
+use Rattle.judge.specs.Traces.{Does}
 use Rattle.judge.specs.StepEffects.{along, is_on, denies, rule_effect, operand_records, constraint_effect, entry_effect, by_entry, by_constraint, by_op, by_known_op, step_effect}
 use Rattle.judge.proofs.Parting.{entry_found, constraint_found}
 
@@ -89,22 +90,12 @@ extension (Splitting c d) br = None
 extension Closing br = None
 
 module _ (bk : Book) (br : Branch) (s : Step) where
-  -- the rule of an effect
-  abbrev pub Does : Effect → Type 0
-  Does (Adds c) = Extends bk br s (with br (c ∷ []) [])
-  Does (AddsTwo c d) = Extends bk br s (with br (c ∷ d ∷ []) [])
-  Does (Links e) = Extends bk br s (with br [] (e ∷ []))
-  Does (Grows x r f n) = Extends bk br s (with_new br (constraint br.next f n ∷ []) (edge x r br.next ∷ []))
-  Does (GrowsTwo x r f g n) = Extends bk br s (with_new br (constraint br.next f n ∷ constraint br.next g n ∷ []) (edge x r br.next ∷ []))
-  Does (Splitting c d) = Splits bk br s (with br (c ∷ []) []) (with br (d ∷ []) [])
-  Does Closing = Closes bk br s
-
   abbrev DoesSome : Option Effect → Type 0
   DoesSome None = Unit {0}
-  DoesSome (Some e) = Does e
+  DoesSome (Some e) = Does bk br s e
 
   abbrev DoesOk : Result Effect StepFault → Type 0
-  DoesOk (Ok e) = Does e
+  DoesOk (Ok e) = Does bk br s e
   DoesOk (Err f) = Unit {0}
 
   fitting : (o : Option Effect) → DoesSome o → DoesOk (ok_or o Misfit)
@@ -161,7 +152,7 @@ module _ (bk : Book) (br : Branch) (s : Step) where
   other = get_or br.constraints s.b no_constraint
 
   -- the edge that the step names leads from x by role r
-  passing : (o : Op) (x r : ℕ) (f : Effect) → Asks o → operand_of o ≡ EdgeOperand → (Leads br s.b x r passed.to → Does f) → DoesSome (along passed x r f)
+  passing : (o : Op) (x r : ℕ) (f : Effect) → Asks o → operand_of o ≡ EdgeOperand → (Leads br s.b x r passed.to → Does bk br s f) → DoesSome (along passed x r f)
   passing o x r f h u d =
       where_true _ (Some f)
       (λ t.
@@ -246,7 +237,7 @@ module _ (bk : Book) (br : Branch) (s : Step) where
   op_does o is = refused (unused_not_zero (operand_of o) s.b) (cond (names_entry o) (by_entry bk br o s) (by_constraint bk br o s)) Malformed (λ used. either_does o is used (names_entry o))
 
   -- an effect that is decided is that of a rule
-  pub does : (e : Effect) → step_effect bk br s ≡ Ok e → Does e
+  pub does : (e : Effect) → step_effect bk br s ≡ Ok e → Does bk br s e
   does e h = subst DoesOk h (go (op_of s.op) refl)
     where
       go : (o : Option Op) → op_of s.op ≡ o → DoesOk (by_known_op bk br s o)

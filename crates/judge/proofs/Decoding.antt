@@ -39,25 +39,35 @@ module _ (bs : List ℕ) where
       record { within = omega (arith, steps_length (suc n)); is = get_or_push (first_steps n bs) (step_at bs n) (step_at bs i) i (steps_length n ∙ e) ∙ ap (step_at bs) e })
       (cases_lt i n)
 
-  -- a chunk of five bytes behind n steps is the next step
+  -- a chunk behind n steps is the next step, and the rest comes behind it
+  pub record Arrived (n : ℕ) (chunk rest : List ℕ) : Type 0 where
+    pub room : 5 * n + 5 ≤ length bs
+    pub step : step_at chunk 0 ≡ step_at bs n
+    pub behind : rest ≡ drop (5 * (n + 1)) bs
+
+  -- a chunk of five bytes
   module _ (n : ℕ) (chunk rest : List ℕ) (five : length chunk ≡ 5) (e : drop (5 * n) bs ≡ chunk ++ rest) where
     byte_at : (j k : ℕ) → j < 5 → k ≡ 5 * n + j → get_or chunk j 0 ≡ get_or bs k 0
     byte_at j k h q =
         sym (ap (λ l. get_or l j 0) e ∙ get_or_append_left chunk rest 0 j (omega arith)) ∙ get_or-drop (5 * n) bs j 0 ∙ ap (λ v. get_or bs v 0) (sym q)
 
-    pub chunk_step : step_at chunk 0 ≡ step_at bs n
+    chunk_step : step_at chunk 0 ≡ step_at bs n
     chunk_step =
         λ i.
         step (byte_at 0 (5 * n) (omega arith) (omega arith) i)
         (byte_at 1 (5 * n + 1) (omega arith) (omega arith) i + 256 * byte_at 2 (5 * n + 1 + 1) (omega arith) (omega arith) i)
         (byte_at 3 (5 * n + 3) (omega arith) (omega arith) i + 256 * byte_at 4 (5 * n + 3 + 1) (omega arith) (omega arith) i)
 
-    pub chunk_room : 5 * n + 5 ≤ length bs
+    chunk_room : 5 * n + 5 ≤ length bs
     chunk_room = omega (arith, sym (length-drop (5 * n) bs) ∙ ap length e, length-append chunk rest)
 
-    pub chunk_rest : rest ≡ drop (5 * (n + 1)) bs
+    chunk_rest : rest ≡ drop (5 * (n + 1)) bs
     chunk_rest =
         sym (drop_at chunk rest 5 five) ∙ ap (λ l. drop 5 l) (sym e) ∙ drop-drop 5 (5 * n) bs ∙ ap (λ k. drop k bs) (omega arith)
+
+    -- it is the next step
+    pub arrived : Arrived n chunk rest
+    arrived = record { room = chunk_room; step = chunk_step; behind = chunk_rest }
 
   -- there are no more chunks
   pub chunks_end : (n : ℕ) (rest : List ℕ) → rest ≡ drop (5 * n) bs → 5 * n ≤ length bs → length rest < 5 → n ≡ length bs / 5

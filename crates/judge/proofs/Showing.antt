@@ -1,7 +1,7 @@
 -- The working lists show where an effect goes. Assumes nothing.
-use Rattle.std.proofs.Common.{◌≡◌, ℕ, ◌+◌, ◌<◌, ◌≤◌, List, [], ◌∷◌, ◌++◌, map, reverse, length, get_or, take, drop, set, replicate, Some, Ok, Err, Result, sym, refl, ap, ◌∙◌, subst, ⊎_elim, arith}
+use Rattle.std.proofs.Common.{◌≡◌, ℕ, ◌+◌, ◌<◌, ◌≤◌, List, [], ◌∷◌, ◌++◌, map, reverse, length, get_or, take, drop, replicate, Some, Ok, Err, Result, sym, refl, ap, ◌∙◌, subst, ⊎_elim, arith}
 use mathlib.Core.List.{reverse-cons}
-use Rattle.std.proofs.lemmas.List.{length-append, length_push, length-replicate, length-reverse, length-map, take_at, take_all, take-append-le, take-append-drop, take-set, drop-set, get_or_push, append-nil}
+use Rattle.std.proofs.lemmas.List.{length-append, length_push, length-replicate, length-reverse, length-map, take_at, take_all, take-append-le, get_or_push, append-nil}
 use Rattle.std.proofs.lemmas.Bool.{cases_lt, cond-true, cond-false, lt-ltb, le-ltb}
 use Rattle.logic.specs.declared.tableau.Constraint.{Constraint}
 use Rattle.logic.specs.declared.tableau.Edge.{Edge}
@@ -146,15 +146,15 @@ module _ (br : Branch) (ps : List PendingSplit) (at : Counts) (cs : List Constra
         let count : length br.constraints ≡ at.constraints = s.constraints.count in
         omega arith
 
-    pub latest_within : latest.constraints < length cs
-    latest_within =
+    -- there is room for its second alternative where the branch is cut back
+    pub second_fits : (cs' : List Constraint) → length cs' ≡ length cs → latest.constraints + 1 ≤ length cs'
+    second_fits cs' lc =
         let h : at.constraints ≤ length cs = s.constraints.fits in
         omega (arith, latest_below)
 
-    pub close_back : (cs' : List Constraint) (es' : List Edge) (ss' : List Split) → length cs' ≡ length cs → length es' ≡ length es → length ss' ≡ length ss → Blanked no_split left at.splits ss ss' → Blanked no_constraint latest.constraints at.constraints cs cs' → Blanked no_edge latest.edges at.edges es es' → ReachesState ls (λ n σ. Represents σ.branch σ.pending n (set cs' latest.constraints latest.second) es' ss') (resumed_state ps) (Ok (Some (record { constraints = latest.constraints + 1; edges = latest.edges; splits = left; labels = latest.labels })))
-    close_back cs' es' ss' lc le ls' bs bc be =
+    pub close_back : (cs' cs'' : List Constraint) (es' : List Edge) (ss' : List Split) → length cs' ≡ length cs → length es' ≡ length es → length ss' ≡ length ss → Blanked no_split left at.splits ss ss' → Blanked no_constraint latest.constraints at.constraints cs cs' → Blanked no_edge latest.edges at.edges es es' → cs'' ≡ take latest.constraints cs' ++ (latest.second ∷ drop (latest.constraints + 1) cs') → ReachesState ls (λ n σ. Represents σ.branch σ.pending n cs'' es' ss') (resumed_state ps) (Ok (Some (record { constraints = latest.constraints + 1; edges = latest.edges; splits = left; labels = latest.labels })))
+    close_back cs' cs'' es' ss' lc le ls' bs bc be put =
         let l = latest in
-        let cs'' = set cs' l.constraints l.second in
         let found = latest_is in
         let p = found.0 in
         let rest = found.1 in
@@ -163,8 +163,6 @@ module _ (br : Branch) (ps : List PendingSplit) (at : Counts) (cs : List Constra
         let before = reverse (map split_record rest) in
         let c : l.constraints < at.constraints = latest_below in
         let fits : at.constraints ≤ length cs = s.constraints.fits in
-        let put : cs'' ≡ take l.constraints cs' ++ (l.second ∷ drop (l.constraints + 1) cs') =
-        sym (take-append-drop l.constraints cs'') ∙ (λ i. take-set cs' l.constraints l.second i ++ drop-set cs' l.constraints l.second (omega arith) i) in
         let d : l.edges ≤ at.edges =
         let x : l.edges ≡ length p.before.edges = ap (λ (v : Split). v.edges) is in
         let y : length p.before.edges ≤ length br.edges = f.2 in

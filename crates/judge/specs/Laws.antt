@@ -2,7 +2,7 @@
 -- ModelsShown: what show answers of the bytes of a model. HasBytes: bytes that refute, for a tableau.
 -- TableauxHaveBytes: there are some for each.
 -- Assumes nothing.
-use Rattle.std.specs.Prelude.{◌≡◌, ℕ, ◌≤◌, List, length, is_ok, Decides, Result}
+use Rattle.std.specs.Prelude.{◌≡◌, ℕ, ◌≤◌, List, length, is_ok, true, ◌↔◌, Result}
 use Rattle.logic.specs.Books.{Book}
 use Rattle.logic.specs.Models.{Model}
 use Rattle.logic.specs.Satisfaction.{Satisfies}
@@ -24,7 +24,7 @@ abbrev pub ModelsShown : Type 0
 ModelsShown =
     (bk : Book) (m : Model) → m.size ≤ 32 → (o : Preference) → Strict o → MeansBetter m o →
     (len : ℕ) (list : List ℕ) (r : Result ℕ ShowFault) → length bk.nodes ≤ len →
-    ShowPromise bk (model_bytes m) o len list r → Decides (is_ok r) (Satisfies m bk)
+    ShowPromise bk (model_bytes m) o len list r → (is_ok r ≡ true) ↔ Satisfies m bk
 
 -- the steps of the tableau are written in bytes, read back as they were, and refute the book
 pub record HasBytes (bk : Book) (ls : Lengths) (t : Closed bk start) : Type 0 where

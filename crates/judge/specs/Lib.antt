@@ -20,6 +20,8 @@ pub mod Members
 pub mod StepEffects
 -- a tableau under way
 pub mod Progress
+-- the steps that are taken, and what each does
+pub mod Traces
 -- what the working lists hold
 pub mod WorkingLists
 -- why a tableau is refused

@@ -2,7 +2,7 @@
 -- op_of, OpOf: an op by its number. names_entry, operand_of: what its operands a and b name.
 -- malformed, never_entered, lacks_operand, names_struck: what can be wrong with a step before any rule is tried.
 -- Assumes nothing.
-use Rattle.std.specs.Prelude.{◌≡◌, ℕ, Bool, true, false, cond, not, ◌&&◌, ◌||◌, length, Some, None, MatchResult, Option, Result, ◌==◌, nat_le, nat_lt}
+use Rattle.std.specs.Prelude.{◌≡◌, ℕ, Bool, true, false, not, ◌&&◌, ◌||◌, length, Some, None, MatchResult, if◌then◌else◌, Option, Result, ◌==◌, nat_le, nat_lt}
 use Rattle.logic.specs.declared.tableau.Step.{Step}
 use Rattle.logic.specs.Books.{Book, stored_at}
 use Rattle.logic.specs.Branches.{Branch}
@@ -15,20 +15,20 @@ use Rattle.judge.specs.declared.ops.Operand.TheVariants.{Unused, Label, Edge, Co
 -- the op of a number
 abbrev pub op_of : ℕ → Option Op
 op_of k =
-    cond (k == 1) (Some Assert) (
-    cond (k == 2) (Some Include) (
-    cond (k == 3) (Some Negation) (
-    cond (k == 4) (Some Conjunction) (
-    cond (k == 5) (Some Disjunction) (
-    cond (k == 6) (Some Successor) (
-    cond (k == 7) (Some AlongRole) (
-    cond (k == 8) (Some Typical) (
-    cond (k == 9) (Some Atypical) (
-    cond (k == 10) (Some Better) (
-    cond (k == 11) (Some AlongBetter) (
-    cond (k == 12) (Some Clash) (
-    cond (k == 13) (Some Absurd) (
-    None)))))))))))))
+    if k == 1 then Some Assert else
+    if k == 2 then Some Include else
+    if k == 3 then Some Negation else
+    if k == 4 then Some Conjunction else
+    if k == 5 then Some Disjunction else
+    if k == 6 then Some Successor else
+    if k == 7 then Some AlongRole else
+    if k == 8 then Some Typical else
+    if k == 9 then Some Atypical else
+    if k == 10 then Some Better else
+    if k == 11 then Some AlongBetter else
+    if k == 12 then Some Clash else
+    if k == 13 then Some Absurd else
+    None
 
 -- the result is the op of the number, or an error with a number that no op has
 abbrev pub OpOf : ℕ → Result Op UnknownOp → Type 0
@@ -77,7 +77,7 @@ never_entered bk s = test_op false (λ op. names_entry op && nat_le (length bk.e
 abbrev pub has_operands : Op → Branch → Step → Bool
 has_operands op br s = (names_entry op || nat_lt s.a (length br.constraints)) && has_operand (operand_of op) br s.b
 
--- it has not
+-- the step names something that the branch lacks
 abbrev pub lacks_operand : Branch → Step → Bool
 lacks_operand br s = test_op false (λ op. not (has_operands op br s)) (op_of s.op)
 

@@ -1,9 +1,10 @@
 -- What show answers of a book, an interpretation in bytes and an order, and what it leaves in its list.
 -- LowestFalse, FirstFalse: the lowest live entry that is false. TrueIfLive, IsLiveAndFalse, FindsFirstFalse: how it is
--- found. ShowAnswer: what each answer means. ShowExact: each answer is given wherever it fits.
+-- found. ExamineAnswer: what is found in a hand-in. ShowAnswer: what each answer of show means. ShowExact: each is
+-- given wherever it fits.
 -- ShowsModels: what show says of a model. ShowPromise: all of this.
 -- Assumes nothing.
-use Rattle.std.specs.Prelude.{◌≡◌, ℕ, ◌<◌, ◌≤◌, Bool, true, List, length, is_ok, Some, None, Ok, Err, Decides, MatchBool, Option, Result, ◌≢◌}
+use Rattle.std.specs.Prelude.{◌≡◌, ℕ, ◌<◌, ◌≤◌, Bool, true, List, length, is_ok, Some, None, Ok, Err, ◌↔◌, MatchBool, Option, Result, ◌≢◌}
 use Rattle.logic.specs.declared.records.Entry.{Entry}
 use Rattle.logic.specs.declared.records.StoredEntry.{StoredEntry}
 use Rattle.logic.specs.Books.{Book}
@@ -17,6 +18,8 @@ use Rattle.models.specs.Meanings.{Compatible, model_of}
 use Rattle.models.specs.NodeMasks.{TrueByMasks}
 use Rattle.models.specs.declared.faults.ViewFault.TheVariants.{BadLength, BadField}
 use Rattle.models.specs.Answers.{HasModelLength, ViewRefused}
+use Rattle.models.specs.Views.{view_meaning}
+use Rattle.judge.specs.declared.show.Examined.{Examined}
 use Rattle.judge.specs.declared.show_faults.ShowFault.{ShowFault}
 use Rattle.judge.specs.declared.show_faults.ShowFault.TheVariants.{View, OrderSize, Fill, EntryFails}
 use Rattle.judge.specs.ShowFaults.{show_fault_number, show_fault_place}
@@ -65,6 +68,18 @@ ShowRefused bk bs o list (EntryFails i) =
     MeanModel bs o × (length bk.nodes ≤ length list) × (show_fault_number (EntryFails i) ≡ 18)
     × ((f : Compatible (interpretation_of bs) o) → LowestFalse (model_of (interpretation_of bs) o f) bk (show_fault_place (EntryFails i)) × HasNodeSets (model_of (interpretation_of bs) o f) bk list)
 
+-- The view holds what the bytes say, the entry is the lowest live one that is false, if there is one, and the
+-- list has the sets of the model. Or the answer is the first refusal that fits; a false entry is none here.
+abbrev pub ExamineAnswer : Book → List ℕ → Preference → List ℕ → Result Examined ShowFault → Type 0
+ExamineAnswer bk bs o list (Ok e) =
+    MeanModel bs o × (length bk.nodes ≤ length list) × (view_meaning e.view ≡ interpretation_of bs)
+    × ((f : Compatible (interpretation_of bs) o) →
+    FirstFalse (model_of (interpretation_of bs) o f) bk e.lowest_false × HasNodeSets (model_of (interpretation_of bs) o f) bk list)
+ExamineAnswer bk bs o list (Err (View f)) = ShowRefused bk bs o list (View f)
+ExamineAnswer bk bs o list (Err (OrderSize n)) = ShowRefused bk bs o list (OrderSize n)
+ExamineAnswer bk bs o list (Err (Fill f)) = ShowRefused bk bs o list (Fill f)
+ExamineAnswer bk bs o list (Err (EntryFails i)) = ⊥
+
 -- Accepted: the number of elements; the model is a model of the live entries, and the list has its sets.
 -- The list is as it is left, and keeps its length. The model does not depend on the evidence f.
 abbrev pub ShowAnswer : Book → List ℕ → Preference → List ℕ → Result ℕ ShowFault → Type 0
@@ -87,7 +102,7 @@ pub record ShowExact (bk : Book) (bs : List ℕ) (o : Preference) (len : ℕ) (r
 abbrev pub ShowsModels : Book → List ℕ → Preference → ℕ → Result ℕ ShowFault → Type 0
 ShowsModels bk bs o len r =
     (m : Model) → HasModelLength bs → (f : Compatible (interpretation_of bs) o) → Alike m (model_of (interpretation_of bs) o f) → length bk.nodes ≤ len →
-    Decides (is_ok r) (Satisfies m bk)
+    (is_ok r ≡ true) ↔ Satisfies m bk
 
 -- What show promises, where the list has the length len and is left as list.
 pub record ShowPromise (bk : Book) (bs : List ℕ) (o : Preference) (len : ℕ) (list : List ℕ) (r : Result ℕ ShowFault) : Type 0 where

@@ -3,7 +3,7 @@
 -- operand_records: what operand b names. entry_effect, constraint_effect: the effect of an op on an entry and on a
 -- constraint. step_effect: that of a step.
 -- Assumes nothing.
-use Rattle.std.specs.Prelude.{ℕ, Bool, true, false, cond, ◌&&◌, length, Some, None, Err, Option, Result, ◌==◌, nat_le, nat_lt, slice_index_or}
+use Rattle.std.specs.Prelude.{ℕ, Bool, true, false, ◌&&◌, if◌then◌else◌, length, Some, None, Err, Option, Result, ◌==◌, nat_le, nat_lt, slice_index_or}
 use Rattle.std.specs.Option.{ok_or}
 use Rattle.logic.specs.declared.records.Node.{Node}
 use Rattle.logic.specs.declared.records.Node.TheVariants as node
@@ -30,7 +30,7 @@ use Rattle.judge.specs.Ops.{op_of, operand_of, names_entry, unused_not_zero, has
 
 -- an effect along an edge that leads from x by role r
 abbrev pub along : Edge → ℕ → ℕ → Effect → Option Effect
-along e x r f = cond (e.from == x && e.role == r) (Some f) None
+along e x r f = if e.from == x && e.role == r then Some f else None
 
 -- two constraints on one node at one label
 abbrev pub is_on : Constraint → ℕ → ℕ → Bool
@@ -59,7 +59,7 @@ rule_effect op.Typical Holds (node.Typical c) x n e d = Some (AddsTwo (constrain
 rule_effect op.Atypical Fails (node.Typical c) x n e d = Some (Splits (constraint x Fails c) (constraint x Admits c))
 rule_effect op.Better Admits m x n e d = Some (GrowsTwo x 16 Holds Bars n)
 rule_effect op.AlongBetter Bars m x n e d = along e x 16 (AddsTwo (constraint e.to Fails n) (constraint e.to Bars n))
-rule_effect op.Clash f m x n e d = cond (denies f d.form && is_on d x n) (Some Closes) None
+rule_effect op.Clash f m x n e d = if denies f d.form && is_on d x n then Some Closes else None
 rule_effect op.Absurd Holds node.Bottom x n e d = Some Closes
 rule_effect op.Absurd Fails node.Top x n e d = Some Closes
 rule_effect _ _ _ x n e d = None
@@ -85,23 +85,22 @@ entry_effect _ _ x = None
 unfoldable pub by_entry : Book → Branch → Op → Step → Result Effect StepFault
 by_entry bk br o s =
     let stored : StoredEntry = stored_at bk s.a in
-    cond (nat_le (length bk.entries) s.a) (Err NeverEntered)
-    (cond (has_operand (operand_of o) br s.b)
-    (cond stored.live (ok_or (entry_effect stored.entry o s.b) Misfit) (Err Struck))
-    (Err NotThere))
+    if nat_le (length bk.entries) s.a then Err NeverEntered else
+    if has_operand (operand_of o) br s.b then (if stored.live then ok_or (entry_effect stored.entry o s.b) Misfit else Err Struck) else
+    Err NotThere
 
 -- the other ops
 unfoldable pub by_constraint : Book → Branch → Op → Step → Result Effect StepFault
 by_constraint bk br o s =
     let c : Constraint = slice_index_or br.constraints s.a no_constraint in
-    cond (nat_lt s.a (length br.constraints) && has_operand (operand_of o) br s.b)
-    (ok_or (constraint_effect o c (node_at bk c.node) (operand_records (operand_of o) br s.b).0 (operand_records (operand_of o) br s.b).1) Misfit)
-    (Err NotThere)
+    let found : Edge × Constraint = operand_records (operand_of o) br s.b in
+    if nat_lt s.a (length br.constraints) && has_operand (operand_of o) br s.b
+    then ok_or (constraint_effect o c (node_at bk c.node) found.0 found.1) Misfit else Err NotThere
 
 abbrev pub by_op : Book → Branch → Step → Op → Result Effect StepFault
 by_op bk br s o =
-    cond (unused_not_zero (operand_of o) s.b) (Err Malformed)
-    (cond (names_entry o) (by_entry bk br o s) (by_constraint bk br o s))
+    if unused_not_zero (operand_of o) s.b then Err Malformed else
+    if names_entry o then by_entry bk br o s else by_constraint bk br o s
 
 abbrev pub by_known_op : Book → Branch → Step → Option Op → Result Effect StepFault
 by_known_op bk br s None = Err Malformed

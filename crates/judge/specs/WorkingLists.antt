@@ -29,7 +29,9 @@ pub record Counted (at : Counts) (br : Branch) : Type 0 where
 -- a new label and the counts with it, if it is none above 255
 abbrev pub labelled : Counts → Result (ℕ × Counts) StepFault
 labelled at =
-    if nat_lt at.labels 256 then Ok (at.labels, record { constraints = at.constraints; edges = at.edges; splits = at.splits; labels = at.labels + 1 }) else Err Full
+    if nat_lt at.labels 256
+    then Ok (at.labels, record { constraints = at.constraints; edges = at.edges; splits = at.splits; labels = at.labels + 1 })
+    else Err Full
 
 -- the branch before a split, and the second alternative
 pub record PendingSplit : Type 0 where
@@ -85,7 +87,7 @@ pub record SixteenBitCounts (at : Counts) : Type 0 where
   pub constraints : at.constraints < 65536
   pub edges : at.edges < 65536
 
--- back to the latest split, and on with its second alternative; nowhere, where none is pending
+-- resume the latest pending split with its second alternative; None if no split is pending
 abbrev pub resumed_state : List PendingSplit → Option WorkState
 resumed_state [] = None
 resumed_state (p ∷ ps) = Some (work_state (second_branch p) ps)

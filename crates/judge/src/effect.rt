@@ -1,5 +1,5 @@
 // What a step does to the branch that is worked, and how it is done in the working lists.
-ghost use Rattle.std.specs.Prelude.{Some, Ok};
+ghost use Rattle.std.specs.Prelude.{Some};
 ghost use Rattle.logic.specs.Branches.{with};
 ghost use Rattle.judge.specs.declared.effect.Effect.TheVariants.{Splits};
 ghost use Rattle.judge.specs.Blanks.{SameLists};
@@ -48,7 +48,8 @@ impl Lists<'_> {
         es: &[Edge],
     ) -> Result<Option<Counts>, StepFault>
         ensures same { SameLists self.old self.new }
-        ensures transforms { TransformsState self.old at self.new (λ br ps. Some (work_state (with br cs.now es.now) ps)) result }
+        ensures transforms { TransformsState self.old at self.new
+            (λ br ps. Some (work_state (with br cs.now es.now) ps)) result }
     {
         append(self.constraints, at.constraints, cs)?;
         append(self.edges, at.edges, es)?;
@@ -85,26 +86,28 @@ impl Lists<'_> {
         }))
     }
 
-    // The branch is closed: back to the latest split and on with its second alternative, if one is pending.
-    fn close(&mut self, at: Counts) -> Option<Counts>
+    // The branch is closed: resumes the latest pending split, if there is one, with its second alternative.
+    fn close(&mut self, at: Counts) -> Result<Option<Counts>, StepFault>
         requires { HoldsSomeState self.old at }
         ensures same { SameLists self.old self.new }
-        ensures transforms { TransformsState self.old at self.new (λ _ ps. resumed_state ps) (Ok result) }
+        ensures transforms { TransformsState self.old at self.new (λ _ ps. resumed_state ps) result }
     {
-        let left = at.splits.checked_sub(1)?;
+        let Some(left) = at.splits.checked_sub(1) else {
+            return Ok(None);
+        };
         let latest = self.splits[left];
         let constraints = latest.constraints as usize;
         let edges = latest.edges as usize;
         cut_back(self.splits, left, at.splits);
         cut_back(self.constraints, constraints, at.constraints);
         cut_back(self.edges, edges, at.edges);
-        self.constraints[constraints] = latest.second;
-        Some(Counts {
+        append(self.constraints, constraints, &[latest.second])?;
+        Ok(Some(Counts {
             constraints: constraints + 1,
             edges,
             splits: left,
             labels: latest.labels,
-        })
+        }))
     }
 
     // What an effect does.
@@ -160,7 +163,7 @@ impl Lists<'_> {
                 self.extend(at, &[c, d], &[e])
             }
             Effect::Splits(c, d) => self.split(at, c, d),
-            Effect::Closes => Ok(self.close(at)),
+            Effect::Closes => self.close(at),
         }
     }
 }

@@ -19,24 +19,24 @@ impl Blank for u32 {
     }
 }
 
-// The list is lent by the caller, so it goes beside the view and is no part of it.
-// Fills the list bottom up with the mask of each node, and with zeros behind; only with zeros where it has not a place
-// for each node. The masks are sets of a model only where the order has the view's size, as `show` sees to; each is the
-// one that its node's operands give for every order.
-pub fn fill<B: ReadableBook, O: Order>(
+// Fills the list with the mask of each node, in the order of the nodes, and with zeros behind. Where it has
+// not a place for each node, it gets only zeros. The masks are the sets of a model only where the order has
+// the view's size, which `examine` checks.
+pub(crate) fn fill<B: ReadableBook, O: Order>(
     book: &B,
     view: &View,
     order: &O,
     list: &mut [u32],
 ) -> Result<(), FillFault>
-    ensures { NodeSetsAnswer (B.ReadableBook.meaning book.now) (view_meaning view.now) (O.Order.meaning order.now) list.new result }
+    ensures { NodeSetsAnswer (B.meaning book.now) (view_meaning view.now) (O.meaning order.now)
+        list.new result }
 {
     clear(list);
     let count = book.node_count();
     if list.len() < count as usize {
         return Err(BadLength(list.len()));
     }
-    // By index: the set of a node is found from the list itself, so no iterator can lend its places.
+    // By index: `extension` reads the list that is filled.
     for i in 0..count {
         list[i as usize] = extension(view, order, list, book.node_at(i));
     }

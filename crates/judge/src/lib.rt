@@ -4,10 +4,10 @@
 
 pub mod effect;
 pub mod faults;
-pub mod fill;
+mod fill;
 pub mod laws;
 pub mod lists;
-pub mod ops;
+mod ops;
 pub mod refute;
 mod rule;
 pub mod show;

@@ -1,9 +1,9 @@
-// Work on lent lists of records that have a blank: the records in front are in use, and the others may be anything
-// until the list is cleared. How many are in use goes beside a list, which is the caller's slice.
+// Work on lent lists of records. The first `len` records of a list are in use, and the others may be anything
+// until the list is cleared.
 ghost use Rattle.std.specs.Prelude.{◌≡◌, ◌+◌, ◌++◌, length, take, drop, replicate, nat_le, nat_lt, slice_index_or, is_ok, if◌then◌else◌};
 ghost use Rattle.judge.specs.Lists.{Blanked};
 
-// A record that has a blank: zero in each field. In place of Default, which gives generic code no fixed value.
+// A record that has a blank: zero in each field. Not `Default`, from which generic code learns no value.
 pub trait Blank: Copy {
     ghost zeroed: { Self };
 
@@ -11,12 +11,12 @@ pub trait Blank: Copy {
         ensures { result ≡ zeroed };
 }
 
-// A list has not the room for more records.
+// A list has no room for more records.
 #[derive(Clone, Copy)]
-pub struct ListFull;
+pub(crate) struct ListFull;
 
 // Record i of the `len` in use, or a blank past them.
-pub fn record_at<T: Blank>(list: &[T], len: usize, i: usize) -> T
+pub(crate) fn record_at<T: Blank>(list: &[T], len: usize, i: usize) -> T
     ensures { result ≡ (if nat_lt i len then slice_index_or list.now i T.zeroed else T.zeroed) }
 {
     if i < len {
@@ -27,9 +27,13 @@ pub fn record_at<T: Blank>(list: &[T], len: usize, i: usize) -> T
 }
 
 // Puts records behind the first `len`, if there is room for all of them.
-pub fn append<T: Blank>(list: &mut [T], len: usize, records: &[T]) -> Result<(), ListFull>
+pub(crate) fn append<T: Blank>(list: &mut [T], len: usize, records: &[T]) -> Result<(), ListFull>
     ensures room { is_ok result ≡ nat_le (len + length records.now) (length list.old) }
-    ensures list { list.new ≡ (if is_ok result then take len list.old ++ (records.now ++ drop (len + length records.now) list.old) else list.old) }
+    ensures list { list.new ≡ (
+        if is_ok result
+        then take len list.old ++ (records.now ++ drop (len + length records.now) list.old)
+        else list.old
+        ) }
 {
     let room = list.len();
     if records.len() > room || len > room - records.len() {
@@ -40,12 +44,12 @@ pub fn append<T: Blank>(list: &mut [T], len: usize, records: &[T]) -> Result<(),
 }
 
 // Blanks the records from `to` up to `len`, so that `to` are left in use.
-pub fn cut_back<T: Blank>(list: &mut [T], to: usize, len: usize)
+pub(crate) fn cut_back<T: Blank>(list: &mut [T], to: usize, len: usize)
     ensures { Blanked T.zeroed to len list.old list.new }
 {
     let end = len.min(list.len());
     if to < end {
-        // a call for one record would take longer than the record
+        // a call of `clear` would take longer than one record does
         if end - to == 1 {
             list[to] = T::blank();
         } else {
@@ -55,7 +59,7 @@ pub fn cut_back<T: Blank>(list: &mut [T], to: usize, len: usize)
 }
 
 // Blanks the whole list.
-pub fn clear<T: Blank>(list: &mut [T])
+pub(crate) fn clear<T: Blank>(list: &mut [T])
     ensures { list.new ≡ replicate (length list.old) T.zeroed }
 {
     list.fill_with(|| T::blank());

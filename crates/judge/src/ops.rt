@@ -3,7 +3,7 @@ ghost use Rattle.std.specs.Prelude.{◌≡◌};
 ghost use Rattle.judge.specs.Ops.{OpOf, operand_of};
 
 #[derive(Clone, Copy, PartialEq, Eq)]
-pub enum Op {
+pub(crate) enum Op {
     // 1: a fact or a role fact of the book
     Assert,
     // 2: an inclusion of the book, at a label
@@ -26,15 +26,15 @@ pub enum Op {
     Better,
     // 11: along an edge to a better label
     AlongBetter,
-    // 12: two constraints that deny each other
+    // 12: two constraints that contradict each other
     Clash,
-    // 13: a constraint that denies itself
+    // 13: a constraint that contradicts itself
     Absurd,
 }
 
 // What the second operand of a step names.
 #[derive(Clone, Copy, PartialEq, Eq)]
-pub enum Operand {
+pub(crate) enum Operand {
     Unused,
     Label,
     Edge,
@@ -43,7 +43,7 @@ pub enum Operand {
 
 // A number that no op has.
 #[derive(Clone, Copy, PartialEq, Eq)]
-pub struct UnknownOp(pub u8);
+pub(crate) struct UnknownOp(pub(crate) u8);
 
 // The op of a number.
 impl TryFrom<u8> for Op {

@@ -1,6 +1,5 @@
-// One step of a tableau. "For every branch" and "for every state" bind a variable of a statement, and are no fact
-// about a value.
-ghost use Rattle.std.specs.Prelude.{◌≡◌, ◌≤◌};
+// One step of a tableau. The clauses quantify over all branches and states: the functions are not given one.
+ghost use Rattle.std.specs.Prelude.{◌≡◌, ◌≤◌, MatchOption};
 ghost use Rattle.logic.specs.Branches.{Branch};
 ghost use Rattle.judge.specs.Blanks.{SameLists, lengths_of};
 ghost use Rattle.judge.specs.Ops.{has_operand};
@@ -15,6 +14,7 @@ use crate::rule::{constraint_effect, entry_effect};
 use crate::step_fault::StepFault;
 use crate::working::{Counts, Lists};
 use books::book::ReadableBook;
+use logic::limits::LABELS;
 use logic::tableau::{Constraint, Edge, Step};
 
 // A step that was taken: its effect, and how much of the lists is in use then; nothing, where the last
@@ -23,6 +23,18 @@ use logic::tableau::{Constraint, Edge, Step};
 pub(crate) struct Taken {
     pub(crate) effect: Effect,
     pub(crate) at: Option<Counts>,
+}
+
+impl Taken {
+    // How many splits are pending then.
+    pub(crate) fn pending(self) -> usize
+        ensures { MatchOption self.at (result ≡ 0) (λ at. result ≡ at.splits) }
+    {
+        match self.at {
+            Some(at) => at.splits,
+            None => 0,
+        }
+    }
 }
 
 // Whether the branch has what operand b names.
@@ -39,7 +51,7 @@ fn has_operand(operand: Operand, b: u16, at: Counts) -> bool
 
 // An op that names an entry.
 fn by_entry<B: ReadableBook>(book: &B, op: Op, step: Step, at: Counts) -> Result<Effect, StepFault>
-    requires { at.labels ≤ 256 }
+    requires { at.labels ≤ LABELS }
     ensures { (br : Branch) → Counted at br → result ≡ by_entry (B.meaning book.now) br op step }
 {
     if step.a >= book.entry_count() {
@@ -78,7 +90,8 @@ fn by_constraint<B: ReadableBook>(
     lists: &Lists,
     at: Counts,
 ) -> Result<Effect, StepFault>
-    ensures { (σ : WorkState) → HoldsState lists.now at σ → result ≡ by_constraint (B.meaning book.now) σ.branch op step }
+    ensures { (σ : WorkState) → HoldsState lists.now at σ →
+        result ≡ by_constraint (B.meaning book.now) σ.branch op step }
 {
     let a = step.a as usize;
     if a >= at.constraints || !has_operand(op.second(), step.b, at) {
@@ -96,8 +109,9 @@ fn decide<B: ReadableBook>(
     lists: &Lists,
     at: Counts,
 ) -> Result<Effect, StepFault>
-    requires { at.labels ≤ 256 }
-    ensures { (σ : WorkState) → HoldsState lists.now at σ → result ≡ step_effect (B.meaning book.now) σ.branch step }
+    requires { at.labels ≤ LABELS }
+    ensures { (σ : WorkState) → HoldsState lists.now at σ →
+        result ≡ step_effect (B.meaning book.now) σ.branch step }
 {
     let op = Op::try_from(step.op).map_err(|_| StepFault::Malformed)?;
     if op.second() == Operand::Unused && step.b != 0 {
@@ -119,7 +133,9 @@ pub(crate) fn take<B: ReadableBook>(
     requires state { HoldsSomeState lists.old at }
     requires small { SixteenBitCounts at }
     ensures same { SameLists lists.old lists.new }
-    ensures answer { (σ : WorkState) → HoldsState lists.old at σ → TakeAnswer (B.meaning book.now) (lengths_of lists.old) (HoldsState lists.new) σ.branch σ.pending step result }
+    ensures answer { (σ : WorkState) → HoldsState lists.old at σ →
+        TakeAnswer (B.meaning book.now) (lengths_of lists.old) (HoldsState lists.new)
+        σ.branch σ.pending step result }
 {
     let effect = decide(book, step, lists, at)?;
     let at = lists.apply(effect, at)?;

@@ -2,13 +2,14 @@
 ghost use Rattle.std.specs.Prelude.{◌≡◌, length};
 ghost use Rattle.judge.specs.Steps.{step_at};
 
+use logic::limits::STEPS;
 use logic::tableau::Step;
 
 // The bytes of a step.
 pub(crate) const STEP: usize = 5;
 
-// The bytes of the 8,192 steps that a tableau has at most.
-pub(crate) const LONGEST: usize = 40960;
+// The bytes of a tableau with as many steps as it may have.
+pub(crate) const LONGEST: usize = STEPS * STEP;
 
 // The step in five bytes.
 pub(crate) fn step_of(bytes: &[u8]) -> Step

@@ -3,22 +3,32 @@ ghost use Rattle.std.specs.Prelude.{◌≡◌, ℕ, false, replicate};
 ghost use Rattle.judge.specs.Members.{member, member_count, with_named};
 
 use crate::ops::Op;
+use logic::limits::ENTRIES;
 use logic::tableau::Step;
 
-// A set of entries: a mark for each number that an entry can have, in fixed memory.
+// A mark for each number that an entry can have.
+const MARKS: usize = ENTRIES as usize;
+
+// A set of entries, in fixed memory.
 #[derive(Clone, Copy)]
 pub struct Used {
-    marks: [bool; 256],
+    marks: [bool; MARKS],
 }
 
 impl Used {
     // The set of no entries.
     pub fn new() -> Used
-        ensures empty { (i : ℕ) → member result i ≡ false }
-        ensures unmarked { result.marks ≡ replicate 256 false }
+        ensures { (i : ℕ) → member result i ≡ false }
+    {
+        Used::unmarked()
+    }
+
+    // The same, by its marks.
+    pub(crate) fn unmarked() -> Used
+        ensures { result.marks ≡ replicate 256 false }
     {
         Used {
-            marks: [false; 256],
+            marks: [false; MARKS],
         }
     }
 
@@ -28,7 +38,6 @@ impl Used {
     {
         let i = step.a as usize;
         let names = matches!(Op::try_from(step.op), Ok(Op::Assert | Op::Include));
-        // By index: after get_mut the proof did not close, since only the length is known then.
         if names && i < self.marks.len() {
             self.marks[i] = true;
         }

@@ -1,17 +1,35 @@
-// Those who watch a tableau being worked.
+// Watching a tableau while it is worked.
 use crate::effect::Effect;
 use logic::tableau::Step;
 
-// A trait, since a closure would bring a `requires` on the public call that takes it. No contract says what is told.
-pub trait Watch {
-    // A step was taken, with this effect; then so many splits are pending.
-    fn taken(&mut self, step: Step, effect: Effect, pending: usize);
+// A step that was taken.
+#[derive(Clone, Copy)]
+pub struct TakenStep {
+    pub step: Step,
+    // what it did to the branch that was worked
+    pub effect: Effect,
+    // how many splits are pending after it
+    pub pending: usize,
 }
 
-// One who looks away.
+// Whoever is told each step that is taken. A trait, since a closure would bring a `requires` on the
+// public call that takes it.
+pub trait Watch {
+    ghost use Rattle.judge.specs.declared.watch.TakenStep.{TakenStep};
+
+    // what a watcher is once it was told of a step, from what it was before
+    ghost told: { Self → TakenStep → Self → Type 0 };
+
+    fn taken(&mut self, taken: TakenStep)
+        ensures { told self.old taken self.new };
+}
+
+// A watcher that ignores what it is told.
 #[derive(Drop)]
-pub struct Unwatched;
+pub(crate) struct Unwatched;
 
 impl Watch for Unwatched {
-    fn taken(&mut self, _step: Step, _effect: Effect, _pending: usize) {}
+    ghost told = { λ _ _ _. Unit {0} };
+
+    fn taken(&mut self, _taken: TakenStep) {}
 }

@@ -5,13 +5,11 @@ ghost use Rattle.judge.specs.WorkingLists.{labelled};
 
 use crate::lists::{Blank, clear};
 use crate::step_fault::StepFault;
+use logic::limits::{INDIVIDUALS, LABELS};
 use logic::tableau::{Constraint, Edge, Form};
 
-// How many labels a branch may have.
-const LABELS: u16 = 256;
-
-// A pending split: the counts to go back to, and the alternative that is still to be worked. 16 bits hold the counts of
-// 8,192 steps, and a list of small records is soon blanked.
+// A pending split: the counts to restore, and the alternative that is still to be worked. The counts of as many
+// steps as there may be have 16 bits; a list of small records is blanked faster.
 #[derive(Clone, Copy)]
 pub struct Split {
     pub constraints: u16,
@@ -20,8 +18,7 @@ pub struct Split {
     pub second: Constraint,
 }
 
-// The three lists, as they are lent. Each method says that they are still the slices that were lent
-// (SameLists), which a struct of `&mut` has to say.
+// The three lists, as they are lent. Each method promises that they stay the slices that were lent (SameLists).
 #[derive(Drop)]
 pub(crate) struct Lists<'a> {
     pub(crate) constraints: &'a mut [Constraint],
@@ -29,8 +26,8 @@ pub(crate) struct Lists<'a> {
     pub(crate) splits: &'a mut [Split],
 }
 
-// How many records of each list are in use, and how many labels there are. They are no part of Lists, since
-// they go back at a split, and there are none when the last branch is closed; the lists are the caller's slices.
+// How many records of each list are in use, and how many labels there are. Kept outside `Lists` because a
+// closing step restores them, and there are none once the last branch is closed.
 #[derive(Clone, Copy)]
 pub(crate) struct Counts {
     pub(crate) constraints: usize,
@@ -48,7 +45,7 @@ impl Counts {
             constraints: 0,
             edges: 0,
             splits: 0,
-            labels: 32,
+            labels: INDIVIDUALS,
         }
     }
 

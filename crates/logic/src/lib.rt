@@ -3,6 +3,7 @@
 #![tactic(auto)]
 
 pub mod laws;
+pub mod limits;
 pub mod records;
 pub mod refusal;
 pub mod tableau;

@@ -5,13 +5,13 @@ use Rattle.std.specs.Prelude.{◌≡◌, ℕ, List, length, Ok, Err, Result}
 use Rattle.models.specs.declared.faults.ViewFault.{ViewFault}
 use Rattle.models.specs.declared.faults.ViewFault.TheVariants.{BadLength, BadField}
 use Rattle.models.specs.declared.view.View.{View}
-use Rattle.models.specs.Interpretations.{interpretation_of}
+use Rattle.models.specs.Interpretations.{bytes_of_interpretation, interpretation_of}
 use Rattle.models.specs.Fields.{LowestBad}
 use Rattle.models.specs.Views.{view_meaning}
 use Rattle.models.specs.Faults.{view_fault_number, view_fault_place}
 
 abbrev pub HasModelLength : List ℕ → Type 0
-HasModelLength bs = length bs ≡ 2337
+HasModelLength bs = length bs ≡ bytes_of_interpretation
 
 -- 7 with the length, or 14 with the first byte of the lowest bad field
 abbrev pub ViewRefused : List ℕ → ViewFault → Type 0

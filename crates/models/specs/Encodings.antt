@@ -2,13 +2,13 @@
 -- model_bytes, pair_bytes: the bytes. MeansBetter: an order is the model's "better". EncodedModel: bytes mean
 -- a model with every such order. ModelsEncoded: they do, and the pairs are such an order.
 -- Assumes nothing.
-use Rattle.std.specs.Prelude.{◌≡◌, ℕ, zero, suc, ◌-◌, ◌*◌, ◌/◌, ◌%◌, ◌<◌, ◌≤◌, cond, List, [], ◌∷◌, ◌==◌, nat_lt}
+use Rattle.std.specs.Prelude.{◌≡◌, ℕ, zero, suc, ◌-◌, ◌*◌, ◌/◌, ◌%◌, ◌<◌, ◌≤◌, if◌then◌else◌, List, [], ◌∷◌, ◌==◌, nat_lt}
 use Rattle.std.specs.List.{AllByRecursion}
 use Rattle.logic.specs.Models.{Model}
 use Rattle.logic.specs.Likeness.{Alike}
 use Rattle.orders.specs.Masks.{has, mask_of, Preference}
 use Rattle.orders.specs.PairLaws.{order_of_pairs, PairsLawful}
-use Rattle.models.specs.Interpretations.{interpretation_of}
+use Rattle.models.specs.Interpretations.{individuals_begin, bytes_of_interpretation, interpretation_of}
 use Rattle.models.specs.Fields.{Valid}
 use Rattle.models.specs.Meanings.{Compatible, model_of}
 use Rattle.models.specs.Answers.{HasModelLength}
@@ -29,7 +29,7 @@ name_mask m a = mask_of (m.atoms a) m.size
 
 -- the set to which a role leads from an element; empty where there is no such element
 abbrev pub successor_mask : Model → ℕ → ℕ → ℕ
-successor_mask m r x = cond (nat_lt x m.size) (mask_of (m.roles r x) m.size) 0
+successor_mask m r x = if nat_lt x m.size then mask_of (m.roles r x) m.size else 0
 
 -- the set of the elements that are better than x
 abbrev pub better_mask : Model → ℕ → ℕ
@@ -37,15 +37,18 @@ better_mask m x = mask_of (λ y. m.better y x) m.size
 
 -- mask i of the bytes: 64 are those of the names, and then there are 32 for each role
 abbrev pub model_mask : Model → ℕ → ℕ
-model_mask m i = cond (nat_lt i 64) (name_mask m i) (successor_mask m ((i - 64) / 32) ((i - 64) % 32))
+model_mask m i = if nat_lt i 64 then name_mask m i else successor_mask m ((i - 64) / 32) ((i - 64) % 32)
 
 -- byte k: the size, a byte of a mask, or the element of an individual
 abbrev pub model_byte : Model → ℕ → ℕ
-model_byte m k = cond (k == 0) m.size (cond (nat_lt k 2305) (byte_of (model_mask m ((k - 1) / 4)) ((k - 1) % 4)) (m.individual (k - 2305)))
+model_byte m k =
+    if k == 0 then m.size else
+    if nat_lt k individuals_begin then byte_of (model_mask m ((k - 1) / 4)) ((k - 1) % 4) else
+    m.individual (k - individuals_begin)
 
 -- the model as an interpretation
 abbrev pub model_bytes : Model → List ℕ
-model_bytes m = first_values 2337 (model_byte m)
+model_bytes m = first_values bytes_of_interpretation (model_byte m)
 
 -- its "better" as pairs
 abbrev pub pair_bytes : Model → List ℕ

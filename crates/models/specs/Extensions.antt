@@ -4,7 +4,7 @@
 -- elements that are not in a set. SomeSuccessorIn: those from which a role leads into it. Best, BestOf: the typical
 -- elements of a set.
 -- Assumes nothing.
-use Rattle.std.specs.Prelude.{◌≡◌, ℕ, ◌<◌, Bool, true, not, ◌&&◌, List, Decides, nat_lt, slice_index}
+use Rattle.std.specs.Prelude.{◌≡◌, ℕ, ◌<◌, Bool, true, not, ◌&&◌, ◌↔◌, List, nat_lt, slice_index}
 use Rattle.logic.specs.declared.records.Node.{Node}
 use Rattle.logic.specs.declared.records.Entry.{Entry}
 use Rattle.logic.specs.Concepts.{Concept, of, read, concepts}
@@ -17,7 +17,7 @@ use Rattle.models.specs.Meanings.{Compatible, model_of}
 
 -- bit x of the mask is set exactly when x is an element in the concept
 abbrev pub Extension : Model → Concept → ℕ → Type 0
-Extension m c mask = (x : ℕ) → Decides (has mask x) ((x < m.size) × Sat m c x)
+Extension m c mask = (x : ℕ) → (has mask x ≡ true) ↔ ((x < m.size) × Sat m c x)
 
 -- the list has the set of each concept, and the empty set past them
 abbrev pub HaveSets : Model → List Concept → List ℕ → Type 0
@@ -33,7 +33,8 @@ SetOfNode i o list n mask =
 -- nodes the list has, the test tells whether the entry is true.
 abbrev pub TruthOf : Interpretation → List ℕ → Entry → Bool → Type 0
 TruthOf i list e test =
-    (o : Preference) (f : Compatible i o) (bk : Book) → HaveSets (model_of i o f) (concepts bk.nodes) list → Decides test (HoldsIn (model_of i o f) bk e)
+    (o : Preference) (f : Compatible i o) (bk : Book) → HaveSets (model_of i o f) (concepts bk.nodes) list →
+    (test ≡ true) ↔ HoldsIn (model_of i o f) bk e
 
 -- the mask has exactly the elements that are not in the set
 abbrev pub Complement : Interpretation → ℕ → ℕ → Type 0
@@ -41,7 +42,7 @@ Complement i set mask = (x : ℕ) → has mask x ≡ (nat_lt x i.size && not (ha
 
 -- the mask has exactly the elements from which the role leads into the set
 abbrev pub SomeSuccessorIn : Interpretation → ℕ → ℕ → ℕ → Type 0
-SomeSuccessorIn i r set mask = (x : ℕ) → Decides (has mask x) ((x < i.size) × ((y : ℕ) × (has (i.successors r x) y ≡ true) × (has set y ≡ true)))
+SomeSuccessorIn i r set mask = (x : ℕ) → (has mask x ≡ true) ↔ ((x < i.size) × ((y : ℕ) × (has (i.successors r x) y ≡ true) × (has set y ≡ true)))
 
 -- element x of the order is in the set, and no better one is
 pub record Best (o : Preference) (set x : ℕ) : Type 0 where
@@ -51,4 +52,4 @@ pub record Best (o : Preference) (set x : ℕ) : Type 0 where
 
 -- the mask has exactly the best elements of the set
 abbrev pub BestOf : Preference → ℕ → ℕ → Type 0
-BestOf o set mask = (x : ℕ) → Decides (has mask x) (Best o set x)
+BestOf o set mask = (x : ℕ) → (has mask x ≡ true) ↔ Best o set x

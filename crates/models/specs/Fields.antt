@@ -3,9 +3,9 @@
 -- good. LowestBad: the first byte of the lowest field that is not. FirstWithout: the lowest number that
 -- has not a property.
 -- Assumes nothing.
-use Rattle.std.specs.Prelude.{◌≡◌, ℕ, ◌+◌, ◌*◌, ◌<◌, ◌≤◌, Some, None, Option}
+use Rattle.std.specs.Prelude.{◌≡◌, ℕ, ◌<◌, ◌≤◌, Some, None, Option}
 use Rattle.orders.specs.Masks.{Within}
-use Rattle.models.specs.Interpretations.{Interpretation}
+use Rattle.models.specs.Interpretations.{Interpretation, name_place, role_place, individual_place}
 
 -- the size, the set of a name, the set of a role at an element, the element of an individual
 pub data Field : Type 0 where
@@ -16,9 +16,9 @@ pub data Field : Type 0 where
 
 abbrev pub first_byte : Field → ℕ
 first_byte size = 0
-first_byte (name a) = 1 + 4 * a
-first_byte (role r x) = 257 + 4 * (32 * r + x)
-first_byte (individual a) = 2305 + a
+first_byte (name a) = name_place a
+first_byte (role r x) = role_place r x
+first_byte (individual a) = individual_place a
 
 -- Of n elements, a role may lead from x to those of the set: all of them are there, and none where x is not.
 abbrev pub SuccessorsWithin : ℕ → ℕ → ℕ → Type 0

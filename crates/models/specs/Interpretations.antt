@@ -1,7 +1,8 @@
 -- Interpretations of at most 32 elements, and their 2,337 bytes.
--- Interpretation: the sets of the names, the roles, and where the individuals are. interpretation_of: what bytes say.
+-- Interpretation: the sets of the names, the roles, and where the individuals are. name_place, role_place,
+-- individual_place: where a field stands in the bytes. interpretation_of: what bytes say.
 -- Assumes nothing.
-use Rattle.std.specs.Prelude.{ℕ, ◌+◌, ◌*◌, cond, ◌&&◌, List, nat_lt}
+use Rattle.std.specs.Prelude.{ℕ, ◌+◌, ◌*◌, ◌&&◌, if◌then◌else◌, List, nat_lt}
 use Rattle.orders.specs.Bytes.{byte, word}
 
 -- The elements are the numbers below size. names a is the set of concept name a, led r x the set of the
@@ -14,12 +15,28 @@ pub record Interpretation : Type 0 where
 
 -- Byte 0 is the size. From byte 1 on there is a mask of 4 bytes for each of 64 names, from byte 257 on
 -- one for each of 16 roles and 32 elements, and from byte 2,305 on a byte for each of 32 individuals.
--- Past these limits nothing is said: the set is empty, and the element 0.
+abbrev pub name_place : ℕ → ℕ
+name_place a = 1 + 4 * a
+
+abbrev pub role_place : ℕ → ℕ → ℕ
+role_place r x = 257 + 4 * (32 * r + x)
+
+abbrev pub individuals_begin : ℕ
+individuals_begin = 2305
+
+abbrev pub individual_place : ℕ → ℕ
+individual_place a = individuals_begin + a
+
+-- so many bytes are an interpretation
+abbrev pub bytes_of_interpretation : ℕ
+bytes_of_interpretation = 2337
+
+-- Past the limits nothing is said: the set is empty, and the element 0.
 abbrev pub interpretation_of : List ℕ → Interpretation
 interpretation_of bs =
     record {
       size = byte bs 0;
-      names = λ a. cond (nat_lt a 64) (word bs (1 + 4 * a)) 0;
-      successors = λ r x. cond (nat_lt r 16 && nat_lt x 32) (word bs (257 + 4 * (32 * r + x))) 0;
-      individual = λ a. cond (nat_lt a 32) (byte bs (2305 + a)) 0;
+      names = λ a. if nat_lt a 64 then word bs (name_place a) else 0;
+      successors = λ r x. if nat_lt r 16 && nat_lt x 32 then word bs (role_place r x) else 0;
+      individual = λ a. if nat_lt a 32 then byte bs (individual_place a) else 0;
     }

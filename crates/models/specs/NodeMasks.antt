@@ -4,7 +4,7 @@
 -- AllSuccessorsIn: the elements from which a role leads only into a set. MaskOfNode: a mask is that of a node.
 -- TrueByMasks: an entry is true.
 -- Assumes nothing.
-use Rattle.std.specs.Prelude.{◌≡◌, ℕ, ◌<◌, true, false, ◌&&◌, ◌||◌, List, Decides, nat_lt, slice_index}
+use Rattle.std.specs.Prelude.{◌≡◌, ℕ, ◌<◌, true, false, ◌&&◌, ◌||◌, ◌↔◌, List, nat_lt, slice_index}
 use Rattle.logic.specs.declared.records.Node.{Node}
 use Rattle.logic.specs.declared.records.Node.TheVariants.{Top, Bottom, Name, Not, And, Or, All, Exists, Typical, Absent}
 use Rattle.logic.specs.declared.records.Entry.{Entry}
@@ -15,7 +15,7 @@ use Rattle.models.specs.Extensions.{Complement, SomeSuccessorIn, BestOf}
 
 -- the mask has exactly the elements from which the role leads only into the set
 abbrev pub AllSuccessorsIn : Interpretation → ℕ → ℕ → ℕ → Type 0
-AllSuccessorsIn i r set mask = (x : ℕ) → Decides (has mask x) ((x < i.size) × ((y : ℕ) → has (i.successors r x) y ≡ true → has set y ≡ true))
+AllSuccessorsIn i r set mask = (x : ℕ) → (has mask x ≡ true) ↔ ((x < i.size) × ((y : ℕ) → has (i.successors r x) y ≡ true → has set y ≡ true))
 
 -- the mask is that of the node, bit by bit
 abbrev pub MaskOfNode : Interpretation → Preference → List ℕ → Node → ℕ → Type 0

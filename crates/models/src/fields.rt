@@ -1,10 +1,13 @@
 // The fields of an interpretation as tables: reading them from bytes, and the lowest one that is bad.
-ghost use Rattle.std.specs.Prelude.{◌≡◌, ℕ, ◌<◌, ◌≤◌, Decides, slice_index};
+ghost use Rattle.std.specs.Prelude.{◌≡◌, ℕ, ◌<◌, ◌≤◌, ◌↔◌, IsTrue, slice_index};
 ghost use Rattle.orders.specs.Masks.{Tabulates};
 ghost use Rattle.models.specs.Interpretations.{interpretation_of};
 ghost use Rattle.models.specs.Tables.{by_tables};
 ghost use Rattle.models.specs.Fields.{name, individual, Good, SuccessorsWithin, FirstWithout, FirstBad};
 
+use crate::layout::{
+    ELEMENTS, INDIVIDUALS, NAMES, ROLES, individual_place, name_place, role_place,
+};
 use orders::bytes::{byte_at, word_at};
 use orders::masks::within;
 use std::array::from_fn;
@@ -14,14 +17,14 @@ use std::array::from_fn;
 #[derive(Clone, Copy)]
 pub(crate) struct Tables {
     pub(crate) size: u8,
-    pub(crate) names: [u32; 64],
-    pub(crate) roles: [[u32; 32]; 16],
-    pub(crate) individuals: [u8; 32],
+    pub(crate) names: [u32; NAMES],
+    pub(crate) roles: [[u32; ELEMENTS]; ROLES],
+    pub(crate) individuals: [u8; INDIVIDUALS],
 }
 
 // Whether a role may lead from x to the elements of the set.
 fn successors_within(n: u8, x: usize, set: u32) -> bool
-    ensures { Decides result (SuccessorsWithin n x set) }
+    ensures { IsTrue result ↔ SuccessorsWithin n x set }
 {
     within(set, n) && (x < n as usize || set == 0)
 }
@@ -43,14 +46,14 @@ impl Tables {
     {
         Tables {
             size: byte_at(bytes, 0),
-            names: from_fn(|a| word_at(bytes, 1 + 4 * a as u16)),
+            names: from_fn(|a| word_at(bytes, name_place(a) as u16)),
             roles: from_fn(
                 |r|
                     requires { r < 16 }
                     ensures { Tabulates ((interpretation_of bytes.entry.now).successors r) result }
-                { from_fn(|x| word_at(bytes, 257 + 4 * (32 * r + x) as u16)) },
+                { from_fn(|x| word_at(bytes, role_place(r, x) as u16)) },
             ),
-            individuals: from_fn(|a| byte_at(bytes, 2305 + a)),
+            individuals: from_fn(|a| byte_at(bytes, individual_place(a))),
         }
     }
 
@@ -72,18 +75,17 @@ impl Tables {
     pub(crate) fn first_bad(&self) -> Option<usize>
         ensures { FirstBad (by_tables self.now) result }
     {
-        if self.size < 1 || self.size > 32 {
+        if self.size < 1 || self.size as usize > ELEMENTS {
             return Some(0);
         }
         if let Some(a) = self.first_name() {
-            return Some(1 + 4 * a);
+            return Some(name_place(a));
         }
-        // tried: `find_map`, whose proof did not close at once; it takes a lemma over the run of rows, and the loop none
         for (r, row) in self.roles.iter().enumerate() {
             if let Some(x) = first_bad_row(self.size, row) {
-                return Some(257 + 4 * (32 * r + x));
+                return Some(role_place(r, x));
             }
         }
-        self.first_individual().map(|a| 2305 + a)
+        self.first_individual().map(|a| individual_place(a))
     }
 }

@@ -5,6 +5,7 @@
 pub mod faults;
 mod fields;
 pub mod laws;
+pub mod layout;
 mod questions;
 mod read;
 pub mod sample;

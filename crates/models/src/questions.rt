@@ -39,8 +39,7 @@ impl View {
             .unwrap_or(0)
     }
 
-    // The element of an individual; 0 past the last. Not one function with `name`: each is one line, over a table
-    // of its own.
+    // The element of an individual; 0 past the last.
     pub(crate) fn element(&self, individual: u16) -> u8
         ensures { result ≡ (view_meaning self.now).individual individual }
     {

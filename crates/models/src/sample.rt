@@ -3,11 +3,13 @@
 ghost use Rattle.std.specs.Prelude.{◌≡◌};
 ghost use Rattle.models.specs.Samples.{sample_bytes};
 
+use crate::layout::LENGTH;
+
 // Its bytes. With it goes an order in which 1 is better than 0.
-pub fn model_bytes() -> [u8; 2337]
+pub fn model_bytes() -> [u8; LENGTH]
     ensures { result ≡ sample_bytes }
 {
-    let mut bytes = [0; 2337];
+    let mut bytes = [0; LENGTH];
     bytes[0] = 2;
     bytes[1] = 3;
     bytes[5] = 1;

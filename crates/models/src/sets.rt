@@ -42,7 +42,8 @@ struct Best<'a, O> {
 }
 
 impl<'a, O: Order> Property for Best<'a, O> {
-    ghost holds = { λ p x. has p.set x && not (meeting ((O.Order.meaning p.order.now).better x) p.set) };
+    ghost holds = { λ p x. has p.set x
+        && not (meeting ((O.Order.meaning p.order.now).better x) p.set) };
 
     // `&` and not `&&`, so that many elements are tested at once.
     fn test(&self, x: u8) -> bool {
@@ -65,23 +66,23 @@ fn some_successor_in(view: &View, role: u16, set: u32) -> u32
     mask_of(&SuccessorIn { row, set }, view.size())
 }
 
-// The elements from which the role leads only into the set: those from which it does not lead out of it.
+// The elements from which the role leads only into the set.
 fn all_successors_in(view: &View, role: u16, set: u32) -> u32
     ensures { AllSuccessorsIn (view_meaning view.now) role set result }
 {
     complement(view, some_successor_in(view, role, complement(view, set)))
 }
 
-// The typical elements of a set: those elements of the order in it than which no better one is in it.
-pub fn typical<O: Order>(order: &O, set: u32) -> u32
+// The typical elements of a set: those elements of `set` with no better element in `set`.
+fn typical<O: Order>(order: &O, set: u32) -> u32
     ensures { BestOf (O.meaning order.now) set result }
 {
     mask_of(&Best { order, set }, order.size())
 }
 
-// The mask of a node, from those that the list has for its operands, whatever they are. Where the list has the sets of
-// the concepts of the nodes before it, and the order is one of the view's elements, it is the set of the node's concept.
-// The list goes beside the view and is no part of it, since the caller lends it.
+// The mask of a node, from those that the list has for its operands, whatever they are. Where the list has
+// the sets of the concepts of the nodes before it, and the order is one of the view's elements, it is the set
+// of the node's concept.
 pub fn extension<O: Order>(view: &View, order: &O, list: &[u32], node: Node) -> u32
     ensures mask { MaskOfNode (view_meaning view.now) (O.meaning order.now) list.now node result }
     ensures set { SetOfNode (view_meaning view.now) (O.meaning order.now) list.now node result }

@@ -1,5 +1,5 @@
 // Whether an entry is true.
-ghost use Rattle.std.specs.Prelude.{Decides};
+ghost use Rattle.std.specs.Prelude.{◌↔◌, IsTrue};
 ghost use Rattle.models.specs.Views.{view_meaning};
 ghost use Rattle.models.specs.Extensions.{TruthOf};
 ghost use Rattle.models.specs.NodeMasks.{TrueByMasks};
@@ -9,10 +9,10 @@ use crate::view::View;
 use logic::records::Entry;
 use orders::masks::{contains, includes};
 
-// Whether the entry is true by the masks of the list, whatever they are. Where the list has the set of each node of the
-// entry's book, it tells whether the entry is true in the model that the view means, with whatever order.
+// Whether the entry is true by the masks of the list, whatever they are. Where the list has the set of
+// each node of the entry's book: whether the entry is true in the model that the view means, with any order.
 pub fn is_true(view: &View, list: &[u32], entry: Entry) -> bool
-    ensures masks { Decides result (TrueByMasks (view_meaning view.now) list.now entry) }
+    ensures masks { IsTrue result ↔ TrueByMasks (view_meaning view.now) list.now entry }
     ensures truth { TruthOf (view_meaning view.now) list.now entry result }
 {
     match entry {

@@ -8,6 +8,7 @@ mod rules;
 mod sealing;
 mod showing;
 mod standing;
+mod tracing;
 
 use books::book::EditableBook;
 use books::journal::Journal;

@@ -1,10 +1,10 @@
 // A tableau is handed in: each step that is taken, and the verdict.
 use crate::calls;
+use crate::tracing::work;
 use books::book::ReadableBook;
 use judge::effect::Effect;
 use judge::lists::Blank;
-use judge::refute::refute_watched;
-use judge::watch::Watch;
+use judge::watch::TakenStep;
 use judge::working::Split;
 use logic::tableau::{Constraint, Edge, Form, Step};
 use std::{fmt, io};
@@ -80,33 +80,14 @@ impl fmt::Display for Words<Effect> {
     }
 }
 
-// Prints each step, and keeps the first failure to print.
-#[derive(Drop)]
-struct Printer<'a, P> {
-    rt: &'a P,
-    pending: usize,
-    printed: io::Result<()>,
-}
-
-impl<P: Print> Printer<'_, P> {
-    // A step, what it did, and how many splits are then pending, where it opened or closed one.
-    fn print(&self, step: Step, effect: Effect, pending: usize) -> io::Result<()> {
-        let Step { op, a, b } = step;
-        print!(self.rt; "    step {op} {a} {b}: {}", Words(effect))?;
-        if pending == self.pending {
-            println!(self.rt; "")
-        } else {
-            println!(self.rt; "; splits pending {pending}")
-        }
-    }
-}
-
-impl<P: Print> Watch for Printer<'_, P> {
-    fn taken(&mut self, step: Step, effect: Effect, pending: usize) {
-        if self.printed.is_ok() {
-            self.printed = self.print(step, effect, pending);
-        }
-        self.pending = pending;
+// A step, what it did, and how many splits are then pending, where it opened or closed one.
+fn print_step<P: Print>(rt: &P, taken: TakenStep, pending: usize) -> io::Result<()> {
+    let Step { op, a, b } = taken.step;
+    print!(rt; "    step {op} {a} {b}: {}", Words(taken.effect))?;
+    if taken.pending == pending {
+        println!(rt; "")
+    } else {
+        println!(rt; "; splits pending {}", taken.pending)
     }
 }
 
@@ -125,22 +106,14 @@ pub(crate) fn refute<B: ReadableBook>(
         "  refute, constraints {} edges {} splits {}:",
         room.constraints, room.edges, room.splits
     )?;
-    let mut printer = Printer {
-        rt,
-        pending: 0,
-        printed: Ok(()),
-    };
-    let verdict = refute_watched(
-        book,
-        steps,
-        &mut constraints,
-        &mut edges,
-        &mut splits,
-        &mut printer,
-    );
-    printer.printed?;
+    let worked = work(heap, book, steps, &mut constraints, &mut edges, &mut splits)?;
+    let mut pending = 0;
+    for taken in &worked.trace {
+        print_step(rt, *taken, pending)?;
+        pending = taken.pending;
+    }
     print!(rt; "    ")?;
-    match verdict {
+    match worked.answer {
         Ok(used) => println!(rt; "closed, entries used {}", used.count())?,
         Err(fault) => calls::print_refusal(rt, &fault)?,
     }

@@ -23,7 +23,7 @@ fn print_standing<B: EditableBook>(rt: &impl Print, docket: &Docket<B>) -> io::R
     let standing = match docket.standing() {
         Standing::Open => "open",
         Standing::Refuted => "refuted",
-        Standing::InWords => "shown",
+        Standing::Shown => "shown",
     };
     println!(rt; "    standing: {standing}")
 }

@@ -1,4 +1,5 @@
-use Rattle.std.proofs.Common.{⊎_elim, arith}
+use Rattle.std.proofs.Common.{[], refl, ⊎_elim, arith}
+use Rattle.judge.specs.Traces.{none}
 use Rattle.judge.proofs.Answering.{answer_length, answer_steps}
 use Rattle.judge.proofs.Telling.{worked_told}
 use Rattle.judge.proofs.refute.refute_watched.Goals as goal
@@ -16,3 +17,6 @@ returns-clause-answer g c =
 
 pub returns-clause-number_and_place : goal.returns-clause-number_and_place
 returns-clause-number_and_place g c = worked_told _ _ c.args.bytes.now c.work-answer.result c.work-answer.ensures.worked
+
+pub returns-then-n-ne0-clause-watched : goal.returns-then-n-ne0-clause-watched
+returns-then-n-ne0-clause-watched g c = ([], none, refl)

@@ -1,34 +1,69 @@
-use Rattle.std.proofs.Common.{◌*◌, ◌<◌, Some, ◌∙◌, ap, drop, take, ◌≡◌, ◌/◌, [], length, map, Err, sym, subst, rules, arith}
+use Rattle.std.proofs.Common.{◌*◌, Some, ◌∙◌, ap, drop, take, ◌≡◌, ◌/◌, [], length, map, Err, sym, refl, subst, rules, arith}
 use Rattle.logic.specs.Branches.{start}
 use Rattle.logic.proofs.Mapping.{mapped_ok, mapped_err}
 use Rattle.judge.specs.Members.{marks_of}
 use Rattle.judge.specs.Progress.{begun, Finished, Underway}
 use Rattle.judge.specs.Steps.{first_steps, decoded}
 use Rattle.judge.specs.Blanks.{lengths_of}
-use Rattle.judge.specs.WorkingLists.{second_branch, HoldsState}
+use Rattle.judge.specs.WorkingLists.{second_branch, WorkState, HoldsState}
+use Rattle.judge.specs.Traces.{none, ToldTrace}
 use Rattle.judge.specs.declared.faults.RefuteFault.TheVariants.{AtStep}
 use Rattle.judge.specs.Reasons.{StepsReason}
 use Rattle.judge.specs.Taking.{TakeAnswer}
-use Rattle.judge.proofs.Decoding.{steps_length, steps-take, chunk_step, chunk_room, chunk_rest, chunks_end}
-use Rattle.judge.proofs.Halting.{shown_start, same_lengths, same_again, holds_some_state, is_small, goes_on, breaks_off}
+use Rattle.judge.proofs.Decoding.{steps_length, steps-take, Arrived, arrived, chunks_end}
+use Rattle.judge.proofs.Halting.{shown_start, same_lengths, same_again, Before, holds_some_state, is_small, goes_on, tells_on, breaks_off}
 use Rattle.judge.proofs.Marks.{marks_next}
 use Rattle.judge.proofs.Standing.{Stands}
+use Rattle.judge.proofs.refute.work.Given as given
 use Rattle.judge.proofs.refute.work.Goals as goal
+use Rattle.judge.proofs.refute.work.Goals.{In-Some, After-step_of-step}
 
 pub loop-i-init : goal.loop-i-init
 loop-i-init g c =
     let bs = c.args.bytes.now in
     let bk = g.B.ReadableBook.meaning c.args.book.now in
     let l = c.args.lists.now in
-    let none : c.into_iter-i-iterator.result.count ≡ 0 = search rules in
+    let w = c.args.watch.now in
+    let none_yet : c.into_iter-i-iterator.result.count ≡ 0 = search rules in
     record {
       size = search rules;
-      room = omega (arith, none);
+      room = omega (arith, none_yet);
       rest = search rules;
-      marks = subst (λ n. c.new-used.result.marks ≡ marks_of (first_steps n bs)) (sym none) c.new-used.ensures.unmarked;
+      marks = subst (λ n. c.unmarked-used.result.marks ≡ marks_of (first_steps n bs)) (sym none_yet) c.unmarked-used.ensures;
       same = search rules;
-      stands = subst (λ n. Stands bk (lengths_of l) (first_steps n bs) (HoldsState l) (Some c.start.result)) (sym none) (start, [], begun, shown_start l c.start.result c.start.ensures);
+      told = subst (λ n. ToldTrace g.W.Watch.told bk (lengths_of l) (first_steps n bs) w w) (sym none_yet) ([], none, refl);
+      stands = subst (λ n. Stands bk (lengths_of l) (first_steps n bs) (HoldsState l) (Some c.start.result)) (sym none_yet) (start, [], begun, shown_start l c.start.result c.start.ensures);
     }
+
+-- the chunk that comes is the next step
+came : (g : given.Over) (c : In-Some g) → Arrived c.args.bytes.now c.loop-i.i-iterator.count c.in-Some.chunk.now c.next.new.self.iter.rest.now
+came g c =
+    let l = c.loop-i in
+    let steps = c.in-Some.ensures.steps in
+    arrived c.args.bytes.now l.i-iterator.count c.in-Some.chunk.now c.next.new.self.iter.rest.now (steps.0.1.1 ∙ l.invariant.size) (sym l.invariant.rest ∙ steps.0.1.0)
+
+-- where the work stands before it
+before : (g : given.Over) (c : After-step_of-step g) → Before (g.B.ReadableBook.meaning c.args.book.now) (lengths_of c.args.lists.now) c.args.bytes.now c.loop-i.i-iterator.count c.step_of-step.result c.loop-i.lists c.in-Some-open.at
+before g c =
+    let l = c.loop-i in
+    record {
+      is = c.step_of-step.ensures ∙ (came g (goal.at.After-step_of-step g c).In-Some).step;
+      long = same_lengths c.args.lists.now l.lists l.invariant.same;
+      stands = subst (Stands (g.B.ReadableBook.meaning c.args.book.now) (lengths_of c.args.lists.now) (first_steps l.i-iterator.count c.args.bytes.now) (HoldsState l.lists)) c.in-Some-open.is l.invariant.stands;
+    }
+
+-- the steps before it
+front : (g : given.Over) (c : In-Some g) → take c.in-Some.i (decoded c.args.bytes.now) ≡ first_steps c.loop-i.i-iterator.count c.args.bytes.now
+front g c =
+    let bs = c.args.bytes.now in
+    ap (λ i. take i (decoded bs)) c.in-Some.ensures.steps.1
+    ∙ steps-take bs c.loop-i.i-iterator.count (length bs / 5) (omega (arith, (came g c).room))
+
+-- a watcher was told them
+told_front : (g : given.Over) (c : In-Some g) → ToldTrace g.W.Watch.told (g.B.ReadableBook.meaning c.args.book.now) (lengths_of c.args.lists.now) (take c.in-Some.i (decoded c.args.bytes.now)) c.args.watch.now c.loop-i.watch
+told_front g c =
+    subst (λ ss. ToldTrace g.W.Watch.told (g.B.ReadableBook.meaning c.args.book.now) (lengths_of c.args.lists.now) ss c.args.watch.now c.loop-i.watch)
+    (sym (front g c)) c.loop-i.invariant.told
 
 pub returns-in_default-clause-worked : goal.returns-in_default-clause-worked
 returns-in_default-clause-worked g c =
@@ -36,33 +71,19 @@ returns-in_default-clause-worked g c =
     let bk = g.B.ReadableBook.meaning c.args.book.now in
     let ls = lengths_of c.args.lists.now in
     let l = c.loop-i in
-    let n = l.i-iterator.count in
-    let came = c.in-Some.ensures.steps in
-    let five = came.0.1.1 ∙ l.invariant.size in
-    let chunk = sym l.invariant.rest ∙ came.0.1.0 in
-    let room = chunk_room bs n c.in-Some.chunk.now c.next.new.self.iter.rest.now five chunk in
-    subst (λ i. (i < length (decoded bs)) × Finished bk ls (take i (decoded bs))) (sym came.1) (
-      omega (arith, steps_length bs (length bs / 5), room),
-      subst (Finished bk ls) (sym (steps-take bs n (length bs / 5) (omega (arith, room))))
-          (subst (Stands bk ls (first_steps n bs) (HoldsState l.lists)) c.in_default.is l.invariant.stands),
+    let some = (goal.at.returns-in_default-clause-worked g c).In-Some in (
+      omega (arith, steps_length bs (length bs / 5), (came g some).room, c.in-Some.ensures.steps.1),
+      subst (Finished bk ls) (sym (front g some)) (subst (Stands bk ls (first_steps l.i-iterator.count bs) (HoldsState l.lists)) c.in_default.is l.invariant.stands),
     )
+
+pub returns-in_default-clause-watched : goal.returns-in_default-clause-watched
+returns-in_default-clause-watched g c = told_front g (goal.at.returns-in_default-clause-watched g c).In-Some
 
 pub take-requires : goal.take-requires
 take-requires g c =
-    let bs = c.args.bytes.now in
-    let bk = g.B.ReadableBook.meaning c.args.book.now in
-    let ls = lengths_of c.args.lists.now in
-    let l = c.loop-i in
-    let n = l.i-iterator.count in
-    let came = c.in-Some.ensures.steps in
-    let five = came.0.1.1 ∙ l.invariant.size in
-    let chunk = sym l.invariant.rest ∙ came.0.1.0 in
-    let is = c.step_of-step.ensures ∙ chunk_step bs n c.in-Some.chunk.now c.next.new.self.iter.rest.now five chunk in
-    let long = same_lengths c.args.lists.now l.lists l.invariant.same in
-    record {
-      state = holds_some_state bk ls bs n c.step_of-step.result is l.open c.in-Some-open.at c.in-Some-open.is l.lists long l.invariant.stands;
-      small = is_small bk ls bs n c.step_of-step.result is l.open c.in-Some-open.at c.in-Some-open.is l.lists long l.invariant.stands (omega (arith, chunk_room bs n c.in-Some.chunk.now c.next.new.self.iter.rest.now five chunk, c.requires));
-    }
+    let some = (goal.at.take-requires g c).In-Some in
+    let b = before g (goal.at.take-requires g c).After-step_of-step in
+    record { state = holds_some_state b; small = is_small b (omega (arith, (came g some).room, c.requires)) }
 
 pub returns-in_err-taken-clause-worked : goal.returns-in_err-taken-clause-worked
 returns-in_err-taken-clause-worked g c =
@@ -70,20 +91,20 @@ returns-in_err-taken-clause-worked g c =
     let bk = g.B.ReadableBook.meaning c.args.book.now in
     let ls = lengths_of c.args.lists.now in
     let l = c.loop-i in
-    let n = l.i-iterator.count in
-    let came = c.in-Some.ensures.steps in
-    let five = came.0.1.1 ∙ l.invariant.size in
-    let chunk = sym l.invariant.rest ∙ came.0.1.0 in
-    let room = chunk_room bs n c.in-Some.chunk.now c.next.new.self.iter.rest.now five chunk in
-    let is = c.step_of-step.ensures ∙ chunk_step bs n c.in-Some.chunk.now c.next.new.self.iter.rest.now five chunk in
+    let at = goal.at.returns-in_err-taken-clause-worked g c in
     let refused = mapped_err c.take.result c.map_err.result c.in_err-taken.field-0.0 _ c.map_err.ensures.cases c.in_err-taken.was in
     let f = refused.0 in
     let fault : c.from_residual.result ≡ Err (AtStep c.in-Some.i f) = search rules in
     rw fault
-    (subst (λ i. StepsReason bk ls (decoded bs) (AtStep i f)) (sym came.1)
-    (breaks_off bk ls bs n c.step_of-step.result is l.open c.in-Some-open.at c.in-Some-open.is l.lists (same_lengths c.args.lists.now l.lists l.invariant.same) l.invariant.stands
-    (length bs / 5) f (HoldsState c.take.new.lists) (omega (arith, room))
+    (subst (λ i. StepsReason bk ls (decoded bs) (AtStep i f)) (sym c.in-Some.ensures.steps.1)
+    (breaks_off (before g at.After-step_of-step) (length bs / 5) f (HoldsState c.take.new.lists) (omega (arith, (came g at.In-Some).room))
     (λ σ h. subst (TakeAnswer bk (lengths_of l.lists) (HoldsState c.take.new.lists) σ.branch σ.pending c.step_of-step.result) refused.1 (c.take.ensures.answer σ h))))
+
+pub returns-in_err-taken-clause-watched : goal.returns-in_err-taken-clause-watched
+returns-in_err-taken-clause-watched g c =
+    let refused = mapped_err c.take.result c.map_err.result c.in_err-taken.field-0.0 _ c.map_err.ensures.cases c.in_err-taken.was in
+    let fault : c.from_residual.result ≡ Err (AtStep c.in-Some.i refused.0) = search rules in
+    rw fault (told_front g (goal.at.returns-in_err-taken-clause-watched g c).In-Some)
 
 pub loop-i-preserved : goal.loop-i-preserved
 loop-i-preserved g c =
@@ -91,27 +112,25 @@ loop-i-preserved g c =
     let bk = g.B.ReadableBook.meaning c.args.book.now in
     let ls = lengths_of c.args.lists.now in
     let l = c.loop-i in
-    let n = l.i-iterator.count in
-    let came = c.in-Some.ensures.steps in
-    let five = came.0.1.1 ∙ l.invariant.size in
-    let chunk = sym l.invariant.rest ∙ came.0.1.0 in
-    let rest = c.next.new.self.iter.rest.now in
-    let next = came.2 in
-    let room = chunk_room bs n c.in-Some.chunk.now rest five chunk in
-    let is = c.step_of-step.ensures ∙ chunk_step bs n c.in-Some.chunk.now rest five chunk in
+    let w = c.args.watch.now in
+    let at = goal.at.loop-i-preserved g c in
+    let b = before g at.After-step_of-step in
+    let here = came g at.In-Some in
+    let next = c.in-Some.ensures.steps.2 in
     let m = c.take.new.lists in
     let same = same_again c.args.lists.now l.lists m l.invariant.same c.take.ensures.same in
     let taken = mapped_ok c.take.result c.map_err.result c.in_ok-taken.taken _ c.map_err.ensures.cases c.in_ok-taken.was in
+    let took = λ (σ : WorkState) (h : HoldsState l.lists c.in-Some-open.at σ). subst (TakeAnswer bk (lengths_of l.lists) (HoldsState m) σ.branch σ.pending c.step_of-step.result) taken (c.take.ensures.answer σ h) in
     record {
-      size = came.0.0 ∙ l.invariant.size;
-      room = omega (arith, room, next);
-      rest = chunk_rest bs n c.in-Some.chunk.now rest five chunk ∙ ap (λ k. drop (5 * k) bs) (sym next);
-      marks = subst (λ k. c.note.new.self.marks ≡ marks_of (first_steps k bs)) (sym next) (marks_next bs n c.step_of-step.result l.used.marks c.note.new.self.marks is l.invariant.marks c.note.ensures);
+      size = c.in-Some.ensures.steps.0.0 ∙ l.invariant.size;
+      room = omega (arith, here.room, next);
+      rest = here.behind ∙ ap (λ k. drop (5 * k) bs) (sym next);
+      marks = subst (λ k. c.note.new.self.marks ≡ marks_of (first_steps k bs)) (sym next) (marks_next bs l.i-iterator.count c.step_of-step.result l.used.marks c.note.new.self.marks b.is l.invariant.marks c.note.ensures);
       same = same;
+      told = subst (λ k. ToldTrace g.W.Watch.told bk ls (first_steps k bs) w c.taken.new.self) (sym next)
+          (tells_on b m c.in_ok-taken.taken took g.W.Watch.told w l.watch c.taken.new.self c.pending.result l.invariant.told c.pending.ensures c.taken.ensures);
       stands = subst (λ k. Stands bk ls (first_steps k bs) (HoldsState m) c.in_ok-taken.taken.at) (sym next)
-          (goes_on bk ls bs n c.step_of-step.result is l.open c.in-Some-open.at c.in-Some-open.is l.lists (same_lengths c.args.lists.now l.lists l.invariant.same) l.invariant.stands
-          m c.in_ok-taken.taken (same_lengths c.args.lists.now m same)
-          (λ σ h. subst (TakeAnswer bk (lengths_of l.lists) (HoldsState m) σ.branch σ.pending c.step_of-step.result) taken (c.take.ensures.answer σ h)));
+          (goes_on b m c.in_ok-taken.taken took (same_lengths c.args.lists.now m same));
     }
 
 pub returns-in-Some-open-2-clause-worked : goal.returns-in-Some-open-2-clause-worked

@@ -5,7 +5,7 @@ use Rattle.docket.proofs.docket.Docket.new.Goals as goal
 pub returns : goal.returns
 returns g c = record {
   first = _;
-  new = record { book = c.in_ok-book.ensures; standing = refl; used = c.new-2.ensures.empty };
+  new = record { book = c.in_ok-book.ensures; standing = refl; used = c.new-2.ensures };
   moved = none;
 }
 
@@ -14,7 +14,7 @@ invariant_of-result g c = (
   [],
   record {
     first = _;
-    new = record { book = c.in_ok-book.ensures; standing = refl; used = c.new-2.ensures.empty };
+    new = record { book = c.in_ok-book.ensures; standing = refl; used = c.new-2.ensures };
     moved = none;
   },
 )
