@@ -2,9 +2,8 @@
 ghost use Rattle.std.specs.Prelude.{◌≡◌, List, [], ◌∷◌, IfOk};
 ghost use Rattle.judge.specs.Blanks.{lengths, AllBlank};
 ghost use Rattle.docket.specs.Events.{Event};
-ghost use Rattle.docket.specs.Runs.{MovesAll, Run};
+ghost use Rattle.docket.specs.Runs.{MovesAll, Run, state_of, Reached};
 ghost use Rattle.docket.specs.Laws.{LawfulRun};
-ghost use Rattle.docket.specs.Runs.{state_of, Reached};
 
 use crate::fault::Fault;
 use crate::laws::docket_law;
@@ -55,9 +54,11 @@ impl<B: EditableBook> Docket<B> {
     // Where the docket stands. A run has led here, and of whichever has, the whole law holds.
     pub fn standing(&self) -> Standing
         ensures answer { result ≡ self.now.standing }
-        ensures run { MovesAll (Event.standing result ∷ []) (state_of self.now) (state_of self.now) }
+        ensures run { MovesAll (Event.standing result ∷ [])
+            (state_of self.now) (state_of self.now) }
         ensures reached { Reached self.now }
-        ensures law { (h : List Event) → Run h (state_of self.now) → LawfulRun h (state_of self.now) }
+        ensures law { (h : List Event)
+            → Run h (state_of self.now) → LawfulRun h (state_of self.now) }
     {
         docket_law();
         self.standing
