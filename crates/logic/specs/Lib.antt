@@ -18,9 +18,9 @@ pub mod Lengths
 pub mod Models
 -- the models of a book
 pub mod Satisfaction
--- models that a book cannot tell apart
+-- models that no book distinguishes
 pub mod Likeness
--- what is proved of them
+-- what is proved of books and models
 pub mod Laws
 -- places of a list
 pub mod Places

@@ -1,6 +1,6 @@
 -- The rules of the tableau: for each, the step that it is written as, and what it makes of a branch.
 -- Extends: one branch. Splits: two branches, first alternative first. Closes: none.
--- NoRule: a step that no rule has.
+-- NoRule: a step that no rule permits.
 -- Assumes nothing.
 use Rattle.std.specs.Prelude.{◌≡◌, ℕ, ◌<◌, [], ◌∷◌}
 use Rattle.logic.specs.declared.records.Node.{Node}
@@ -16,7 +16,7 @@ use Rattle.logic.specs.Branches.{Branch, better_role, constraint, edge, with, wi
 abbrev pub step : ℕ → ℕ → ℕ → Step
 step op a b = record { op = op; a = a; b = b }
 
--- node n of the book is this one
+-- node n of the book is the given one
 abbrev pub Is : Book → ℕ → Node → Type 0
 Is bk n node = node_at bk n ≡ node
 
@@ -50,7 +50,7 @@ pub data Extends (bk : Book) (br : Branch) : Step → Branch → Type 0 where
   -- 8: typical, where it holds
   typical_holds : {a x n c : ℕ} → Says br a x Holds n → Is bk n (Typical c) →
       Extends bk br (step 8 a 0) (with br (constraint x Holds c ∷ constraint x Bars c ∷ []) [])
-  -- 10: admits: to a new label, which is better, is in the concept and has none better in it
+  -- 10: admits: to a new label, which is better, is in the concept and has no better element in it
   admits : {a x c : ℕ} → Says br a x Admits c →
       Extends bk br (step 10 a 0) (with_new br (constraint br.next Holds c ∷ constraint br.next Bars c ∷ []) (edge x better_role br.next ∷ []))
   -- 11: bars: along an edge to a better element
@@ -73,14 +73,14 @@ pub data Splits (bk : Book) (br : Branch) : Step → Branch → Branch → Type 
 
 -- rules that close a branch: the step
 pub data Closes (bk : Book) (br : Branch) : Step → Type 0 where
-  -- 12: the first constraint is denied by the second
+  -- 12: the two constraints contradict each other
   holds_and_fails : {a b x n : ℕ} → Says br a x Holds n → Says br b x Fails n → Closes bk br (step 12 a b)
   bars_and_admits : {a b x n : ℕ} → Says br a x Bars n → Says br b x Admits n → Closes bk br (step 12 a b)
   -- 13: bottom, where it holds; top, where it fails
   bottom_holds : {a x n : ℕ} → Says br a x Holds n → Is bk n Bottom → Closes bk br (step 13 a 0)
   top_fails : {a x n : ℕ} → Says br a x Fails n → Is bk n Top → Closes bk br (step 13 a 0)
 
--- no rule has this step over the branch
+-- no rule permits this step on the branch
 pub record NoRule (bk : Book) (br : Branch) (s : Step) : Type 0 where
   pub extends : (b : Branch) → Extends bk br s b → ⊥
   pub splits : (left right : Branch) → Splits bk br s left right → ⊥
