@@ -1,4 +1,4 @@
--- The records of a frame: bytes with the counts of the records that stand in them, right before a trailer.
+-- The records of a frame: bytes with the counts of the records in them, which end right before a trailer.
 -- Assumes nothing.
 use Rattle.std.specs.Prelude.{◌≡◌, ℕ, ◌+◌, ◌*◌, true, List}
 use Rattle.logic.specs.declared.records.Node.{Node}
