@@ -10,7 +10,7 @@ use Rattle.verdict.specs.Marks.{marked_part}
 abbrev pub File : Type 0
 File = Option (List ℕ)
 
--- Opening a missing file answers `None`; opening a file answers a reader that has its bytes before it.
+-- Opening a missing file answers `None`; opening a file answers a reader with its bytes left to read.
 abbrev pub Opened : {R : Type 0} → (R → Option (List ℕ)) → File → Option R → Type 0
 Opened remaining None opened = IsNone opened
 Opened remaining (Some bs) opened = IsSomeAnd opened (λ r. remaining r ≡ Some bs)
