@@ -1,5 +1,5 @@
 -- The files of a folder that are a hand-in.
--- File: a file, or that there is none. Opened: what opening a file answers. counted: the bytes that count.
+-- File: a file, or none. Opened: what opening a file answers. counted: the bytes that count.
 -- Files, InFolder: the four files of a hand-in, by their names.
 -- Assumes nothing.
 use Rattle.std.specs.Prelude.{◌≡◌, ℕ, List, [], Some, None, IfSome, IsNone, IsSomeAnd, codes}

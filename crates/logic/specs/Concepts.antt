@@ -1,4 +1,4 @@
--- The concepts of ALC with typicality, and the concept that each node of a list stands for.
+-- The concepts of ALC with typicality, and the concept of each node of a list.
 -- Concept: the syntax. concepts: the concept of each node of a list. plain: no typicality occurs.
 -- Assumes nothing.
 use Rattle.std.specs.Prelude.{ℕ, Bool, true, false, ◌&&◌, List, [], ◌∷◌, ◌++◌, map, slice_index_or}

@@ -4,7 +4,7 @@ pub mod Bounds
 pub mod Bytes
 -- the numbers of each record
 pub mod Written
--- concepts, and what each node stands for
+-- concepts, and the concept of each node
 pub mod Concepts
 -- what a book holds
 pub mod Books

@@ -32,22 +32,22 @@ pub data Extends (bk : Book) (br : Branch) : Step → Branch → Type 0 where
       Extends bk br (step 3 a 0) (with br (constraint x Fails c ∷ []) [])
   not_fails : {a x n c : ℕ} → Says br a x Fails n → Is bk n (Not c) →
       Extends bk br (step 3 a 0) (with br (constraint x Holds c ∷ []) [])
-  -- 4: and, where it holds; or, where it fails
+  -- 4: and, if it holds; or, if it fails
   and_holds : {a x n c d : ℕ} → Says br a x Holds n → Is bk n (And c d) →
       Extends bk br (step 4 a 0) (with br (constraint x Holds c ∷ constraint x Holds d ∷ []) [])
   or_fails : {a x n c d : ℕ} → Says br a x Fails n → Is bk n (Or c d) →
       Extends bk br (step 4 a 0) (with br (constraint x Fails c ∷ constraint x Fails d ∷ []) [])
-  -- 6: some, where it holds; all, where it fails: to a new label
+  -- 6: some, if it holds; all, if it fails: to a new label
   some_holds : {a x n r c : ℕ} → Says br a x Holds n → Is bk n (Exists r c) →
       Extends bk br (step 6 a 0) (with_new br (constraint br.next Holds c ∷ []) (edge x r br.next ∷ []))
   all_fails : {a x n r c : ℕ} → Says br a x Fails n → Is bk n (All r c) →
       Extends bk br (step 6 a 0) (with_new br (constraint br.next Fails c ∷ []) (edge x r br.next ∷ []))
-  -- 7: all, where it holds; some, where it fails: along an edge
+  -- 7: all, if it holds; some, if it fails: along an edge
   all_holds : {a b x y n r c : ℕ} → Says br a x Holds n → Is bk n (All r c) → Leads br b x r y →
       Extends bk br (step 7 a b) (with br (constraint y Holds c ∷ []) [])
   some_fails : {a b x y n r c : ℕ} → Says br a x Fails n → Is bk n (Exists r c) → Leads br b x r y →
       Extends bk br (step 7 a b) (with br (constraint y Fails c ∷ []) [])
-  -- 8: typical, where it holds
+  -- 8: typical, if it holds
   typical_holds : {a x n c : ℕ} → Says br a x Holds n → Is bk n (Typical c) →
       Extends bk br (step 8 a 0) (with br (constraint x Holds c ∷ constraint x Bars c ∷ []) [])
   -- 10: admits: to a new label, which is better, is in the concept and has no better element in it
@@ -62,12 +62,12 @@ pub data Splits (bk : Book) (br : Branch) : Step → Branch → Branch → Type 
   -- 2: a live inclusion, at a label of the branch
   inclusion : {a x c d : ℕ} → Live bk a (Inclusion c d) → x < br.next →
       Splits bk br (step 2 a x) (with br (constraint x Fails c ∷ []) []) (with br (constraint x Holds d ∷ []) [])
-  -- 5: or, where it holds; and, where it fails
+  -- 5: or, if it holds; and, if it fails
   or_holds : {a x n c d : ℕ} → Says br a x Holds n → Is bk n (Or c d) →
       Splits bk br (step 5 a 0) (with br (constraint x Holds c ∷ []) []) (with br (constraint x Holds d ∷ []) [])
   and_fails : {a x n c d : ℕ} → Says br a x Fails n → Is bk n (And c d) →
       Splits bk br (step 5 a 0) (with br (constraint x Fails c ∷ []) []) (with br (constraint x Fails d ∷ []) [])
-  -- 9: typical, where it fails
+  -- 9: typical, if it fails
   typical_fails : {a x n c : ℕ} → Says br a x Fails n → Is bk n (Typical c) →
       Splits bk br (step 9 a 0) (with br (constraint x Fails c ∷ []) []) (with br (constraint x Admits c ∷ []) [])
 
@@ -76,7 +76,7 @@ pub data Closes (bk : Book) (br : Branch) : Step → Type 0 where
   -- 12: the two constraints contradict each other
   holds_and_fails : {a b x n : ℕ} → Says br a x Holds n → Says br b x Fails n → Closes bk br (step 12 a b)
   bars_and_admits : {a b x n : ℕ} → Says br a x Bars n → Says br b x Admits n → Closes bk br (step 12 a b)
-  -- 13: bottom, where it holds; top, where it fails
+  -- 13: bottom, if it holds; top, if it fails
   bottom_holds : {a x n : ℕ} → Says br a x Holds n → Is bk n Bottom → Closes bk br (step 13 a 0)
   top_fails : {a x n : ℕ} → Says br a x Fails n → Is bk n Top → Closes bk br (step 13 a 0)
 

@@ -13,7 +13,7 @@ pub enum Node {
     All(u16, u16),
     Exists(u16, u16),
     Typical(u16),
-    // what stands past the end of a book; its kind is 255
+    // the answer past the end of a book; its kind is 255
     Absent,
 }
 
@@ -24,7 +24,7 @@ pub enum Entry {
     Inclusion(u16, u16),
     Fact(u16, u16),
     RoleFact(u16, u16, u16),
-    // what stands past the end of a book; its kind is 255
+    // the answer past the end of a book; its kind is 255
     Absent,
 }
 

@@ -27,7 +27,7 @@ byte_of w (suc j) = byte_of (w / 256) j
 abbrev pub name_mask : Model → ℕ → ℕ
 name_mask m a = mask_of (m.atoms a) m.size
 
--- the set to which a role leads from an element; empty where there is no such element
+-- the set to which a role leads from an element; empty if there is no such element
 abbrev pub successor_mask : Model → ℕ → ℕ → ℕ
 successor_mask m r x = if nat_lt x m.size then mask_of (m.roles r x) m.size else 0
 

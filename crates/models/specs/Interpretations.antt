@@ -1,5 +1,5 @@
 -- Interpretations of at most 32 elements, and their 2,337 bytes.
--- Interpretation: the sets of the names, the roles, and where the individuals are. name_place, role_place,
+-- Interpretation: the sets of the names, the roles, the elements of the individuals. name_place, role_place,
 -- individual_place: the offset of a field. interpretation_of: what bytes mean.
 -- Assumes nothing.
 use Rattle.std.specs.Prelude.{ℕ, ◌+◌, ◌*◌, ◌&&◌, if◌then◌else◌, List, nat_lt}

@@ -56,7 +56,7 @@ has_trailer bs =
     && (distance bs == records_length (node_total bs) (entry_total bs)
     && nat_le (distance bs) (length bs - trailer_size))))
 
--- where the first node begins, and where the first entry does
+-- the offset of the first node, and that of the first entry
 abbrev pub node_start : List ℕ → ℕ → ℕ → ℕ
 node_start bs n m = length bs - trailer_size - records_length n m
 
