@@ -41,15 +41,18 @@ pub trait EditableBook: ReadableBook + Sized + Drop {
 
     // Appends a node and returns its number; granted exactly when the book stays lawful.
     fn node(&mut self, raw: RawNode) -> Result<u16, NodeFault>
-        ensures answer { OfferAnswer nodes (Self.ReadableBook.meaning self.old) (Self.ReadableBook.meaning self.new) raw result }
+        ensures answer { OfferAnswer nodes (Self.ReadableBook.meaning self.old)
+            (Self.ReadableBook.meaning self.new) raw result }
         ensures exact { IsOk result ↔ NodeFits (Self.ReadableBook.meaning self.old) raw };
 
     // Appends an entry, live, and returns its number; granted exactly when the book stays lawful.
     fn enter(&mut self, raw: RawEntry) -> Result<u16, EnterFault>
-        ensures answer { OfferAnswer entries (Self.ReadableBook.meaning self.old) (Self.ReadableBook.meaning self.new) raw result }
+        ensures answer { OfferAnswer entries (Self.ReadableBook.meaning self.old)
+            (Self.ReadableBook.meaning self.new) raw result }
         ensures exact { IsOk result ↔ EntryFits (Self.ReadableBook.meaning self.old) raw };
 
     // Clears the live mark of entry i.
     fn strike(&mut self, i: u16) -> Result<(), StrikeFault>
-        ensures { StrikeAnswer (Self.ReadableBook.meaning self.old) (Self.ReadableBook.meaning self.new) i result };
+        ensures { StrikeAnswer (Self.ReadableBook.meaning self.old)
+            (Self.ReadableBook.meaning self.new) i result };
 }

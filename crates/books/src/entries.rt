@@ -14,7 +14,8 @@ pub(crate) fn taken(entry: Entry) -> StoredEntry
 // Strikes entry i.
 pub(crate) fn strike_entry(entries: &mut Vec<StoredEntry>, i: u16)
     requires { i < vec_len entries.old }
-    ensures items { entries.new.items ≡ slice_set entries.old.items i (struck (slice_index_or entries.old.items i no_stored_entry)) }
+    ensures items { entries.new.items ≡ slice_set entries.old.items i
+        (struck (slice_index_or entries.old.items i no_stored_entry)) }
     ensures len { vec_len entries.new ≡ vec_len entries.old }
     ensures capacity { vec_capacity entries.new ≡ vec_capacity entries.old }
 {

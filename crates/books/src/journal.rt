@@ -39,7 +39,8 @@ pub struct Journal {
 impl Journal {
     // Appends a record and sets both counts.
     fn append(&mut self, record: Record, nodes: u16, entries: u16)
-        requires { Consistent (self.old.records.items ++ «record» ∷ []) (vec_len self.old.records + 1) nodes entries }
+        requires { Consistent (self.old.records.items ++ «record» ∷ [])
+            (vec_len self.old.records + 1) nodes entries }
         ensures { self.new.records.items ≡ self.old.records.items ++ «record» ∷ [] }
     {
         self.records.push_reserved(record);
@@ -73,7 +74,8 @@ fn after_strike(stored: StoredEntry, j: u16, i: u16) -> StoredEntry
 fn after_record(stored: StoredEntry, seen: u16, record: Record, i: u16) -> (StoredEntry, u16)
     requires { seen < 1024 }
     ensures reads { (bk : Book) → stored ≡ stored_at bk i → seen ≡ length bk.entries
-        → (result.0 ≡ stored_at (recorded bk «record») i) × (result.1 ≡ length (recorded bk «record»).entries) }
+        → (result.0 ≡ stored_at (recorded bk «record») i)
+        × (result.1 ≡ length (recorded bk «record»).entries) }
     ensures few { result.1 ≤ seen + 1 }
 {
     match record {

@@ -83,7 +83,8 @@ fn node_typicality_allowed(node: Node, plain_operands: PlainOperands) -> bool
 // Whether a node is plain: no typicality occurs in its concept.
 pub fn plain_node(node: Node, plain_operands: PlainOperands) -> bool
     ensures flags { result ≡ plain_by plain_operands node }
-    ensures concept { (cs : List Concept) → IsPlainnessOf cs (node_a node) (node_b node) plain_operands → result ≡ plain (read cs node) }
+    ensures concept { (cs : List Concept) → IsPlainnessOf cs (node_a node) (node_b node) plain_operands
+        → result ≡ plain (read cs node) }
 {
     match node {
         Node::Not(_) => plain_operands.plain_a,
@@ -104,7 +105,8 @@ pub fn typical_node(node: Node) -> bool
 // The node that is offered, or why it does not fit a book of `count` nodes. Whether the book is full is tested before.
 pub fn judge_node(count: u16, plain_operands: PlainOperands, raw: RawNode) -> Result<Node, Unfit>
     ensures flags { Judged (node_unfit_by count plain_operands raw) (node_of raw) result }
-    ensures books { (bk : Book) → length bk.nodes ≡ count → IsPlainnessOf (concepts bk.nodes) raw.a raw.b plain_operands
+    ensures books { (bk : Book) → length bk.nodes ≡ count
+        → IsPlainnessOf (concepts bk.nodes) raw.a raw.b plain_operands
         → Judged (node_unfit bk raw) (node_of raw) result }
 {
     let node = Node::from(raw);
@@ -163,9 +165,12 @@ pub fn judge_entry(
     plain_operands: PlainOperands,
     raw: RawEntry,
 ) -> Result<Entry, Unfit>
-    ensures flags { Judged (entry_unfit_by count typical_a plain_operands raw) (entry_of raw) result }
-    ensures books { (bk : Book) → length bk.nodes ≡ count → is_typical (concept bk raw.a) ≡ typical_a
-        → IsPlainnessOf (concepts bk.nodes) raw.a raw.b plain_operands → Judged (entry_unfit bk raw) (entry_of raw) result }
+    ensures flags { Judged (entry_unfit_by count typical_a plain_operands raw)
+        (entry_of raw) result }
+    ensures books { (bk : Book) → length bk.nodes ≡ count
+        → is_typical (concept bk raw.a) ≡ typical_a
+        → IsPlainnessOf (concepts bk.nodes) raw.a raw.b plain_operands
+        → Judged (entry_unfit bk raw) (entry_of raw) result }
 {
     let entry = Entry::from(raw);
     first_unfit(

@@ -15,7 +15,8 @@ pub trait Offered: Copy {
 
     // Offers the record.
     fn offer_to<B: EditableBook>(self, book: &mut B) -> Result<u16, OfferFault<Self>>
-        ensures { OfferAnswer offer (B.ReadableBook.meaning book.old) (B.ReadableBook.meaning book.new) self result };
+        ensures { OfferAnswer offer (B.ReadableBook.meaning book.old)
+            (B.ReadableBook.meaning book.new) self result };
 }
 
 impl Offered for RawNode {
@@ -40,7 +41,8 @@ impl Offered for RawEntry {
 
 // Offers records one after the other, up to the first that is refused; those before it stay in the book.
 pub fn write_all<B: EditableBook, R: Offered>(book: &mut B, raws: &[R]) -> Result<(), OfferFault<R>>
-    ensures { ListAnswer R.offer (B.ReadableBook.meaning book.old) (B.ReadableBook.meaning book.new) raws.now result }
+    ensures { ListAnswer R.offer (B.ReadableBook.meaning book.old)
+        (B.ReadableBook.meaning book.new) raws.now result }
 {
     for raw in raws {
         raw.offer_to(book)?;

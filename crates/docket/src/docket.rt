@@ -100,7 +100,8 @@ impl<B: EditableBook> Docket<B> {
         edges: &mut [Edge],
         splits: &mut [Split],
     ) -> Result<u16, Fault>
-        ensures run { MovesAll (Event.refute bytes.now (lengths constraints.old edges.old splits.old) result ∷ [])
+        ensures run { MovesAll
+            (Event.refute bytes.now (lengths constraints.old edges.old splits.old) result ∷ [])
             (state_of self.old) (state_of self.new) }
         ensures blank { AllBlank (lengths constraints.old edges.old splits.old)
             constraints.new edges.new splits.new }

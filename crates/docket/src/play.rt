@@ -104,7 +104,8 @@ pub fn play<B: EditableBook, O: Order>(
         × Played O.Order.meaning (lengths constraints.old edges.old splits.old) (length sets.old) calls.now h
         × Run h (state_of d)
         × LawfulRun h (state_of d)) }
-    ensures blank { AllBlank (lengths constraints.old edges.old splits.old) constraints.new edges.new splits.new }
+    ensures blank { AllBlank (lengths constraints.old edges.old splits.old)
+        constraints.new edges.new splits.new }
     ensures zeros { sets.new ≡ replicate (length sets.old) 0 }
 {
     let docket = make_all(heap, calls, constraints, edges, splits, sets);

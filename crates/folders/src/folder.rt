@@ -28,7 +28,8 @@ pub trait Folder {
 
 // Reads the first 65,535 bytes, or fewer if there are fewer. No more is read.
 fn first_bytes<R: Read + Drop>(heap: Global, file: R) -> io::Result<Vec<u8>>
-    ensures { IfOk result (λ bytes. IfSome (R.remaining file) (λ all. bytes.items ≡ marked_part all)) }
+    ensures { IfOk result (λ bytes.
+        IfSome (R.remaining file) (λ all. bytes.items ≡ marked_part all)) }
 {
     let mut bytes = Vec::new(heap);
     file.take(WHOLE as u64).read_to_end(&mut bytes)?;
@@ -38,7 +39,8 @@ fn first_bytes<R: Read + Drop>(heap: Global, file: R) -> io::Result<Vec<u8>>
 // The first 65,535 bytes of the file of a name, or `None` if the folder has no such file.
 pub(crate) fn read<F: Folder>(heap: Global, folder: &F, name: &str) -> io::Result<Option<Vec<u8>>>
     ensures read { IfOk result (λ bytes.
-        IfSome (F.known folder.now name.now) (λ is. option_map vec_items bytes ≡ option_map marked_part is)) }
+        IfSome (F.known folder.now name.now) (λ is.
+        option_map vec_items bytes ≡ option_map marked_part is)) }
     ensures failed { OnErr result (F.known folder.now name.now ≢ Some None) }
 {
     match folder.open(name)? {

@@ -40,7 +40,8 @@ fn part<F: Folder>(
     name: &'static str,
 ) -> Result<Option<Vec<u8>>, ReadFault>
     ensures read { IfOk result (λ bytes.
-        IfSome (F.known folder.now name.now) (λ is. option_map vec_items bytes ≡ option_map marked_part is)) }
+        IfSome (F.known folder.now name.now) (λ is.
+        option_map vec_items bytes ≡ option_map marked_part is)) }
     ensures named { IfErr result (λ fault. fault.name.now ≡ name.now) }
     ensures failed { OnErr result (F.known folder.now name.now ≢ Some None) }
 {

@@ -2,6 +2,7 @@
 use crate::numbers::Size::{Four, One};
 use crate::numbers::{Size, numbers, push};
 use anyhow::{Context, Result};
+use models::layout::{ELEMENTS, FIRST_INDIVIDUAL, FIRST_NAME, FIRST_ROLE, SET};
 use std::alloc::Global;
 
 // A number, its place in the file and its size.
@@ -16,9 +17,12 @@ struct Field {
 fn field_of(key: &str, numbers: &[u32]) -> Option<Field> {
     let (at, size, number) = match (key, numbers) {
         ("elements", [n]) => (0, One, *n),
-        ("names", [i, mask]) => (1 + 4 * *i as usize, Four, *mask),
-        ("roles", [role, x, mask]) => (257 + 4 * (32 * *role as usize + *x as usize), Four, *mask),
-        ("individuals", [i, x]) => (2305 + *i as usize, One, *x),
+        ("names", [i, mask]) => (FIRST_NAME + SET * *i as usize, Four, *mask),
+        ("roles", [role, x, mask]) => {
+            let row = ELEMENTS * *role as usize + *x as usize;
+            (FIRST_ROLE + SET * row, Four, *mask)
+        },
+        ("individuals", [i, x]) => (FIRST_INDIVIDUAL + *i as usize, One, *x),
         ("set", [at, byte]) => (*at as usize, One, *byte),
         _ => return None,
     };

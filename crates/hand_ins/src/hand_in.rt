@@ -3,12 +3,10 @@ use crate::fields;
 use crate::numbers::Size::{Four, One, Two};
 use crate::numbers::append;
 use anyhow::{Result, bail};
+use models::layout::LENGTH;
 use std::alloc::Global;
 use verdict::Verdict;
 use verdict::mark::{mark_model, mark_tableau};
-
-// The length of an interpretation, in bytes.
-const MODEL: usize = 2337;
 
 #[derive(Clone, Copy)]
 enum File {
@@ -89,7 +87,7 @@ impl<'a> HandIn<'a> {
             "pairs" => append(heap, self.file(File::Pairs), &[Four], rest)?,
             "elements" => {
                 let model = self.file(File::Model);
-                model.resize(MODEL, 0)?;
+                model.resize(LENGTH, 0)?;
                 fields::write(heap, model, key, rest)?;
             }
             "names" | "roles" | "individuals" => {

@@ -69,7 +69,8 @@ impl Lists<'_> {
     ) -> Result<Option<Counts>, StepFault>
         requires { SixteenBitCounts at }
         ensures same { SameLists self.old self.new }
-        ensures transforms { TransformsState self.old at self.new (state_after (Splits first second)) result }
+        ensures transforms { TransformsState self.old at self.new
+            (state_after (Splits first second)) result }
     {
         let pending = Split {
             constraints: at.constraints as u16,
@@ -90,7 +91,8 @@ impl Lists<'_> {
     fn close(&mut self, at: Counts) -> Result<Option<Counts>, StepFault>
         requires { HoldsSomeState self.old at }
         ensures same { SameLists self.old self.new }
-        ensures transforms { TransformsState self.old at self.new (λ _ ps. resumed_state ps) result }
+        ensures transforms { TransformsState self.old at self.new
+            (λ _ ps. resumed_state ps) result }
     {
         let Some(left) = at.splits.checked_sub(1) else {
             return Ok(None);

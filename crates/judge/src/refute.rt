@@ -25,7 +25,8 @@ fn work<B: ReadableBook, W: Watch>(
 ) -> Result<Used, RefuteFault>
     requires { length bytes.now ≤ LONGEST }
     ensures same { SameLists lists.old lists.new }
-    ensures worked { WorkAnswer (B.meaning book.now) (lengths_of lists.old) (decoded bytes.now) result }
+    ensures worked { WorkAnswer (B.meaning book.now) (lengths_of lists.old)
+        (decoded bytes.now) result }
     ensures watched { Watched W.told (B.meaning book.now) (lengths_of lists.old) (decoded bytes.now)
         watch.old watch.new result }
 {

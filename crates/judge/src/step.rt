@@ -68,7 +68,8 @@ fn by_entry<B: ReadableBook>(book: &B, op: Op, step: Step, at: Counts) -> Result
 
 // The edge and the constraint that operand b names; blanks in place of what it does not name.
 fn operand_records(operand: Operand, b: u16, lists: &Lists, at: Counts) -> (Edge, Constraint)
-    ensures { (σ : WorkState) → HoldsState lists.now at σ → result ≡ operand_records operand σ.branch b }
+    ensures { (σ : WorkState) → HoldsState lists.now at σ
+        → result ≡ operand_records operand σ.branch b }
 {
     let b = b as usize;
     match operand {

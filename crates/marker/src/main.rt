@@ -30,7 +30,8 @@ fn write_line<W: Write>(out: &mut W, verdict: Verdict) -> io::Result<()>
 
 // Marks the hand-in in a folder and writes the line of its verdict, and nothing else.
 fn mark<F: Folder, W: Write>(heap: Global, folder: &F, out: &mut W) -> Result<()>
-    ensures { OnOk result ((fs : Files) × InFolder (F.known folder.now) fs × ((v : Verdict) × FilesMark fs v
+    ensures { OnOk result ((fs : Files) × InFolder (F.known folder.now) fs
+        × ((v : Verdict) × FilesMark fs v
         × Appends (W.contents out.old) (W.contents out.new) (line_of v))) }
 {
     match mark_folder(heap, folder) {

@@ -7,7 +7,7 @@ use logic::limits;
 use orders::masks;
 
 // Elements: they are numbered from 0 to 31.
-pub(crate) const ELEMENTS: usize = masks::ELEMENTS as usize;
+pub const ELEMENTS: usize = masks::ELEMENTS as usize;
 
 pub(crate) const NAMES: usize = limits::NAMES as usize;
 
@@ -16,14 +16,14 @@ pub(crate) const ROLES: usize = limits::ROLES as usize;
 pub(crate) const INDIVIDUALS: usize = limits::INDIVIDUALS as usize;
 
 // Bytes in a set.
-const SET: usize = 4;
+pub const SET: usize = 4;
 
 // The first bytes of the names, of the roles and of the individuals.
-const FIRST_NAME: usize = 1;
+pub const FIRST_NAME: usize = 1;
 
-const FIRST_ROLE: usize = FIRST_NAME + SET * NAMES;
+pub const FIRST_ROLE: usize = FIRST_NAME + SET * NAMES;
 
-const FIRST_INDIVIDUAL: usize = FIRST_ROLE + SET * ELEMENTS * ROLES;
+pub const FIRST_INDIVIDUAL: usize = FIRST_ROLE + SET * ELEMENTS * ROLES;
 
 // Bytes in an interpretation.
 pub const LENGTH: usize = FIRST_INDIVIDUAL + INDIVIDUALS;

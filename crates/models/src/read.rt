@@ -14,7 +14,8 @@ impl View {
     // and every field is good.
     pub fn read(bytes: &[u8]) -> Result<View, ViewFault>
         ensures answer { ReadAnswer bytes.now result }
-        ensures exact { IsOk result ↔ (HasModelLength bytes.now × Valid (interpretation_of bytes.now)) }
+        ensures exact { IsOk result
+            ↔ (HasModelLength bytes.now × Valid (interpretation_of bytes.now)) }
     {
         if bytes.len() != LENGTH {
             return Err(ViewFault::BadLength(bytes.len()));

@@ -54,7 +54,8 @@ impl<E: Encoding> Filled<E> {
 
     // Takes the order that the bytes encode; granted exactly when they are lawful. A refusal changes nothing.
     pub fn fill(&mut self, bytes: &[u8]) -> Result<(), E::Fault>
-        ensures answer { FillAnswer E.Lawful E.order_of_bytes E.Refused (meaning self.old) (meaning self.new) bytes.now result }
+        ensures answer { FillAnswer E.Lawful E.order_of_bytes E.Refused
+            (meaning self.old) (meaning self.new) bytes.now result }
         ensures exact { IsOk result ↔ E.Lawful bytes.now }
     {
         self.rows = E::read(bytes)?;

@@ -3,7 +3,7 @@ use orders::masks::all_below;
 use orders::order::Order;
 use std::process::Abort;
 
-// The order has one element. It is asked by number, here and below.
+// The order has one element.
 pub(crate) fn is_alone<O: Order>(rt: &impl Abort, order: &O) {
     assert_eq!(rt; order.size(), 1);
     for x in 0..=255u8 {

@@ -1,5 +1,5 @@
 // Orders of either kind in one list.
-use crate::answers::{fill, is_pair};
+use crate::answers::is_pair;
 use orders::any::AnyOrder;
 use orders::order::Order;
 use orders::pairs::Pairs;
@@ -9,8 +9,8 @@ use orders::ranks::Ranks;
 fn both_kinds(rt: HostRuntime) {
     let mut pairs = Pairs::new();
     let mut ranks = Ranks::new();
-    assert_eq!(rt; fill(&mut pairs, &[2, 0, 0, 0, 0, 0, 0, 0]), Ok(()));
-    assert_eq!(rt; fill(&mut ranks, &[1, 0, 2]), Ok(()));
+    assert_eq!(rt; pairs.fill(&[2, 0, 0, 0, 0, 0, 0, 0]), Ok(()));
+    assert_eq!(rt; ranks.fill(&[1, 0, 2]), Ok(()));
     is_pair(&rt, &AnyOrder::Pairs(pairs));
     let order = AnyOrder::Ranks(ranks);
     assert_eq!(rt; order.size(), 3);

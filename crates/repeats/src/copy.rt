@@ -10,7 +10,8 @@ use std::alloc::Global;
 // Copies the nodes into an empty book.
 fn copy_nodes<B: ReadableBook, W: EditableBook>(book: &B, copy: &mut W) -> Option<()>
     requires { W.ReadableBook.meaning copy.old ≡ empty }
-    ensures { IfSome result (λ _. W.ReadableBook.meaning copy.new ≡ copied_entries (B.meaning book.now) 0) }
+    ensures { IfSome result (λ _.
+        W.ReadableBook.meaning copy.new ≡ copied_entries (B.meaning book.now) 0) }
 {
     for i in 0..book.node_count() {
         if copy.node(RawNode::from(book.node_at(i))).is_err() {
@@ -24,7 +25,8 @@ fn copy_nodes<B: ReadableBook, W: EditableBook>(book: &B, copy: &mut W) -> Optio
 fn copy_entry<B: ReadableBook, W: EditableBook>(book: &B, j: u16, copy: &mut W) -> Option<()>
     requires within { j < length (B.meaning book.now).entries }
     requires before { W.ReadableBook.meaning copy.old ≡ copied_entries (B.meaning book.now) j }
-    ensures { IfSome result (λ _. W.ReadableBook.meaning copy.new ≡ copied_entries (B.meaning book.now) (j + 1)) }
+    ensures { IfSome result (λ _.
+        W.ReadableBook.meaning copy.new ≡ copied_entries (B.meaning book.now) (j + 1)) }
 {
     let stored = book.entry_at(j);
     let Ok(entry) = copy.enter(RawEntry::from(stored.entry)) else {

@@ -57,7 +57,8 @@ struct Marked<'a> {
 
 // Checks the nodes of a frame.
 fn check_nodes<'a>(frame: Frame<'a>) -> Result<Marked<'a>, CheckFault>
-    ensures { MatchResult result (λ m. m.frame ≡ frame.entry) (λ fault. NodeFirstRefused frame.entry fault) }
+    ensures { MatchResult result (λ m. m.frame ≡ frame.entry)
+        (λ fault. NodeFirstRefused frame.entry fault) }
 {
     let mut marks = [true; NODES as usize];
     for i in 0..frame.counts.nodes {

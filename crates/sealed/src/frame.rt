@@ -37,7 +37,8 @@ impl<'a> Frame<'a> {
 
     // The bytes and both counts, if the trailer fits.
     pub(crate) fn read(bytes: &'a [u8]) -> Option<Frame<'a>>
-        ensures { MatchOption result (has_trailer bytes.now ≡ false) (λ f. (f.bytes.now ≡ bytes.now) × EndsInTrailer f) }
+        ensures { MatchOption result (has_trailer bytes.now ≡ false)
+            (λ f. (f.bytes.now ≡ bytes.now) × EndsInTrailer f) }
     {
         let len = bytes.len();
         if len < TRAILER {

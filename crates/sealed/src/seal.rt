@@ -51,7 +51,8 @@ fn trailer_bytes(counts: Counts) -> [u8; TRAILER]
 fn put(out: &mut [u8], at: usize, bytes: &[u8]) -> usize
     requires { at + length bytes.now ≤ length out.old }
     ensures end { result ≡ at + length bytes.now }
-    ensures written { out.new ≡ take at out.old ++ (bytes.now ++ drop (at + length bytes.now) out.old) }
+    ensures written { out.new ≡ take at out.old
+        ++ (bytes.now ++ drop (at + length bytes.now) out.old) }
 {
     let end = at + bytes.len();
     out[at..end].copy_from_slice(bytes);

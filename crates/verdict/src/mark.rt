@@ -73,7 +73,8 @@ pub fn mark_tableau(book: &[u8], steps: &[u8]) -> Verdict
 
 /// Marks a model, with its "better" in pairs, against a sealed book. Only the first 65,535 bytes of each count.
 pub fn mark_model(book: &[u8], model: &[u8], pairs: &[u8]) -> Verdict
-    ensures { ModelMark (marked_part book.now) (marked_part model.now) (marked_part pairs.now) result }
+    ensures { ModelMark (marked_part book.now) (marked_part model.now)
+        (marked_part pairs.now) result }
 {
     match satisfied(first(book), first(model), first(pairs)) {
         Ok(elements) => Verdict::Satisfied(elements as u32),

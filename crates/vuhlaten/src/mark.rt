@@ -34,7 +34,8 @@ pub extern "C" fn vuhlaten_mark_model(
     pairs: &[u8],
     out: &mut [u8],
 ) -> usize
-    ensures { (v : Verdict) × ModelMark (marked_part book.now) (marked_part model.now) (marked_part pairs.now) v
+    ensures { (v : Verdict)
+        × ModelMark (marked_part book.now) (marked_part model.now) (marked_part pairs.now) v
         × LineWritten v out.old out.new result }
 {
     write_line(mark_model(book, model, pairs), out)
@@ -43,7 +44,8 @@ pub extern "C" fn vuhlaten_mark_model(
 /// Marks a tableau as `vuhlaten_mark_tableau` does, and returns the verdict as numbers.
 #[unsafe(no_mangle)]
 pub extern "C" fn vuhlaten_judge_tableau(book: &[u8], steps: &[u8]) -> Outcome
-    ensures { (v : Verdict) × TableauMark (marked_part book.now) (marked_part steps.now) v × (result ≡ outcome_of v) }
+    ensures { (v : Verdict) × TableauMark (marked_part book.now) (marked_part steps.now) v
+        × (result ≡ outcome_of v) }
 {
     mark_tableau(book, steps).into()
 }
@@ -51,7 +53,8 @@ pub extern "C" fn vuhlaten_judge_tableau(book: &[u8], steps: &[u8]) -> Outcome
 /// Marks a model as `vuhlaten_mark_model` does, and returns the verdict as numbers.
 #[unsafe(no_mangle)]
 pub extern "C" fn vuhlaten_judge_model(book: &[u8], model: &[u8], pairs: &[u8]) -> Outcome
-    ensures { (v : Verdict) × ModelMark (marked_part book.now) (marked_part model.now) (marked_part pairs.now) v
+    ensures { (v : Verdict)
+        × ModelMark (marked_part book.now) (marked_part model.now) (marked_part pairs.now) v
         × (result ≡ outcome_of v) }
 {
     mark_model(book, model, pairs).into()

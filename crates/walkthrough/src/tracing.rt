@@ -48,7 +48,8 @@ pub(crate) fn work<B: ReadableBook>(
     edges: &mut [Edge],
     splits: &mut [Split],
 ) -> Result<Worked, AllocError>
-    ensures { IfOk result (λ w. Trace (B.meaning book.now) (lengths constraints.old edges.old splits.old)
+    ensures { IfOk result (λ w. Trace (B.meaning book.now)
+        (lengths constraints.old edges.old splits.old)
         (take (steps_taken (decoded bytes.now) w.answer) (decoded bytes.now)) w.trace.items) }
 {
     let mut recorder = Recorder {
