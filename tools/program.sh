@@ -1,16 +1,16 @@
-# For the scripts `mark` and `walk`, which read this file: builds a program of the repository where it is not built yet.
+# For the scripts `mark` and `walk`, which source this file: builds a program of the repository if it is not built yet.
 
-# the checksum of all that a program is built of
+# the checksum of all sources of a program
 sources() {
     (cd "$1" && find crates.txt crates/*/{src,specs,proofs} -type f -print0 | LC_ALL=C sort -z | xargs -0 sha256sum | sha256sum)
 }
 
-# build_program ROOT NAME: proves and builds the program of the crate NAME, if the sources or the program are not those of
-# the last build. Says so on standard error, since the first time takes minutes.
+# build_program ROOT NAME: proves and builds the program of the crate NAME, unless the sources and the program are those
+# of the last build. Says so on standard error, since the first time takes minutes.
 build_program() {
     local root=$1 name=$2
     local out=$root/crates/$name/out
-    # what the last build was of, and the program that it made
+    # the checksums of the last build: of its sources, and of the program
     local sums=$out/$name.sums
     local before log
     before=$(sources "$root")
@@ -22,8 +22,8 @@ build_program() {
         exit 1
     fi
     echo "$(basename "$0"): proving and building first: about 5 minutes on four processors the first time, less after a change" >&2
-    # `rt run` builds a program and runs it; what that run prints is of no use here. What the toolchain says is shown only
-    # if it fails.
+    # `rt run` builds a program and runs it; the output of that run is dropped. The toolchain's messages are shown only if
+    # it fails.
     log=$(mktemp)
     if ! (cd "$root/crates/$name" && rt run) >/dev/null 2>"$log"; then
         cat "$log" >&2

@@ -1,7 +1,7 @@
 -- What the calls of an editable book answer, and what the book is after them. In each relation bk is the
 -- book before the call and bk' the book after it.
--- Offer: what can be offered to a book. nodes, entries: the two things that can.
--- IsPlainnessOf: what a book says of two of its nodes. Judged: what the tests of an offered record say.
+-- Offer: a kind of record that can be offered to a book. nodes, entries: the two kinds.
+-- IsPlainnessOf: whether two nodes are plain. Judged: what the tests of an offered record answer.
 -- OfferAnswer, StrikeAnswer: what a call answers and does.
 -- Assumes nothing.
 use Rattle.std.specs.Prelude.{◌≡◌, ℕ, ◌<◌, ◌≤◌, Bool, true, false, List, length, Ok, Err, Result}
@@ -22,7 +22,7 @@ use Rattle.books.specs.Faults.{unfit_number, offer_fault_number, offer_fault_pla
 abbrev pub IsPlainnessOf : List Concept → ℕ → ℕ → PlainOperands → Type 0
 IsPlainnessOf cs a b s = (plain (of cs a) ≡ s.plain_a) × (plain (of cs b) ≡ s.plain_b)
 
--- which of four tests, in their order, is the first that fails
+-- which of the four tests, in their order, is the first that fails
 abbrev pub FirstUnfit : Bool → Bool → Bool → Bool → Result (Unit {0}) Unfit → Type 0
 FirstUnfit known in_range there placed (Ok u) = first_unfit known in_range there placed ≡ 0
 FirstUnfit known in_range there placed (Err u) = first_unfit known in_range there placed ≡ unfit_number u
@@ -32,8 +32,8 @@ abbrev pub Judged : {T : Type 0} → ℕ → T → Result T Unfit → Type 0
 Judged unfit x (Ok y) = (unfit ≡ 0) × (y ≡ x)
 Judged unfit x (Err u) = unfit ≡ unfit_number u
 
--- How records of one sort are offered: `refusal` is 0 where a book grants a record, `count` is how many of
--- the sort the book has, and `more` is the book with the record.
+-- How records of one kind are offered: `refusal` is 0 if the book grants the record, `count` is how many
+-- records of the kind the book has, and `more` is the book with the record added.
 pub record Offer (R : Type 0) : Type 0 where
   pub refusal : Book → R → ℕ
   pub count : Book → ℕ
@@ -61,8 +61,8 @@ abbrev pub CannotStrike : Book → ℕ → StrikeFault → Type 0
 CannotStrike bk i (NeverEntered p) = length bk.entries ≤ i
 CannotStrike bk i (Struck p) = (i < length bk.entries) × ((stored_at bk i).live ≡ false)
 
--- Why an entry is not struck, the refusal's number, 6, and its place, the number of the entry. Both are written out, so
--- that a wrong one in the definitions beside the fault is refused at the call.
+-- Why an entry is not struck. The refusal's number, 6, and its place, the number of the entry, are written out: if the
+-- definitions of the fault's number and place are wrong, the call does not prove.
 abbrev pub StrikeRefused : Book → ℕ → StrikeFault → Type 0
 StrikeRefused bk i f = CannotStrike bk i f × (strike_fault_number f ≡ 6) × (strike_fault_place f ≡ i)
 

@@ -1,5 +1,5 @@
 -- The calls of an editable book that can change it, each with what it was offered and what it answered.
--- BookCall: such a call. Called: it was made of a book. CalledAll: a list of them was made, one after the other.
+-- BookCall: such a call. Called: it was made on a book. CalledAll: a list of them was made, one after the other.
 -- Assumes nothing.
 use Rattle.std.specs.Prelude.{ℕ, List, [], ◌∷◌, Result}
 use Rattle.logic.specs.declared.records.RawNode.{RawNode}
@@ -14,7 +14,7 @@ pub data BookCall : Type 0 where
   enter : RawEntry → Result ℕ (OfferFault RawEntry) → BookCall
   strike : ℕ → Result (Unit {0}) StrikeFault → BookCall
 
--- the call, made of the book bk, answers what it says, and leaves the book bk'
+-- on the book bk the call has its answer, and bk' is the book afterwards
 abbrev pub Called : BookCall → Book → Book → Type 0
 Called (node raw r) bk bk' = OfferAnswer nodes bk bk' raw r
 Called (enter raw r) bk bk' = OfferAnswer entries bk bk' raw r

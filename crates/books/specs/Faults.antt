@@ -19,7 +19,7 @@ abbrev pub reason_number : Reason → ℕ
 reason_number reasons.Full = 1
 reason_number (reasons.Unfit u) = unfit_number u
 
--- of a node and of an entry that was offered
+-- for an offered node and for an offered entry
 abbrev pub offer_fault_number : {R : Type 0} → OfferFault R → ℕ
 offer_fault_number f = reason_number f.reason
 

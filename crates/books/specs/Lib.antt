@@ -6,9 +6,9 @@ pub mod Answers
 pub mod Offers
 -- nodes with their marks
 pub mod Marks
--- lists of records
+-- writing lists of records
 pub mod Writing
 -- what the records of a journal mean
 pub mod Replay
--- lists of such calls
+-- lists of calls of a book
 pub mod Calls

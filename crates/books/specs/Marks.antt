@@ -1,5 +1,5 @@
--- Nodes with their marks, which tell whether they are plain; and what a book with marks answers to an offer.
--- nodes_of, marks_of_nodes: the nodes and the marks of a list of marked nodes. no_node: what stands past the end.
+-- Nodes with marks that tell whether they are plain; and what a book with marks answers to an offer.
+-- nodes_of, marks_of_nodes: the nodes and the marks of a list of marked nodes. no_node: the value past the end.
 -- HasRoom: whether there is room for one more.
 -- NodeOffered, EntryOffered: the record that is offered, or why it is refused.
 -- MayStrike: whether an entry can be struck.
@@ -28,7 +28,7 @@ nodes_of ms = map (λ m. m.node) ms
 abbrev pub marks_of_nodes : List MarkedNode → List Bool
 marks_of_nodes ms = map (λ m. m.plain) ms
 
--- what stands past the end: no node, with the mark that it is plain
+-- the value past the end: no node, marked as plain
 abbrev pub no_node : MarkedNode
 no_node = record { node = Absent; plain = true }
 

@@ -1,6 +1,6 @@
--- The tests of an offered record by flags alone, for any flags: what the record is, how many nodes there
--- are, and whether its operands a and b are plain. Where the flags are those of a book, Refusals and
--- Concepts say what the tests mean.
+-- The tests of an offered record, for any flags: what the record is, how many nodes there are, and
+-- whether its operands a and b are plain. If the flags are those of a book, Refusals and Concepts say
+-- what the tests mean.
 -- plain_by: whether a node is plain. node_unfit_by, entry_unfit_by: why a record does not fit.
 -- Assumes nothing.
 use Rattle.std.specs.Prelude.{ℕ, Bool, true, false, ◌&&◌, ◌||◌}
@@ -28,7 +28,7 @@ plain_by s (node.Exists r c) = s.plain_b
 plain_by s (node.Typical c) = false
 plain_by s node.Absent = true
 
--- below all, some and T stands no T
+-- the operand of all, some and T contains no T
 abbrev pub node_placed_by : PlainOperands → Node → Bool
 node_placed_by s node.Top = true
 node_placed_by s node.Bottom = true
@@ -41,7 +41,7 @@ node_placed_by s (node.Exists r c) = s.plain_b
 node_placed_by s (node.Typical c) = s.plain_a
 node_placed_by s node.Absent = true
 
--- On the left of an inclusion stands T of something, or no T occurs there; on the right none occurs.
+-- The left concept of an inclusion is T(c) or contains no T; the right one contains no T.
 abbrev pub entry_placed_by : Bool → PlainOperands → Entry → Bool
 entry_placed_by typical_a s (entry.Inclusion c d) = (typical_a || s.plain_a) && s.plain_b
 entry_placed_by typical_a s (entry.Fact x c) = true
@@ -53,7 +53,7 @@ abbrev pub node_unfit_by : ℕ → PlainOperands → RawNode → ℕ
 node_unfit_by count s raw =
     first_unfit (is_node (node_of raw)) (node_within_limits (node_of raw) && node_unused_zero raw) (node_operands_below count (node_of raw)) (node_placed_by s (node_of raw))
 
--- why an entry does not fit; typical_a says whether node a is T of something
+-- why an entry does not fit; typical_a: node a is T(c) for some c
 abbrev pub entry_unfit_by : ℕ → Bool → PlainOperands → RawEntry → ℕ
 entry_unfit_by count typical_a s raw =
     first_unfit (is_entry (entry_of raw)) (entry_within_limits (entry_of raw) && entry_unused_zero raw) (entry_operands_below count (entry_of raw)) (entry_placed_by typical_a s (entry_of raw))

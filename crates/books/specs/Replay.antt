@@ -1,7 +1,7 @@
 -- What the records of a journal mean.
--- recorded, replay: the book after a record and after a list of records.
+-- recorded, replay: the book after one record and after a list of records.
 -- recorded_nodes: the nodes of the records. struck_count: how many entries are struck.
--- Consistent: records, their number and both counts belong together.
+-- Consistent: records, their number and both counts agree.
 -- Assumes nothing.
 use Rattle.std.specs.Prelude.{◌≡◌, ℕ, ◌+◌, ◌≤◌, if◌then◌else◌, List, [], ◌∷◌, length, Option, Some, None}
 use Rattle.std.specs.List.{filter_map}
@@ -21,7 +21,7 @@ recorded bk (records.Node m) = with_node bk m.node
 recorded bk (records.Entry e) = with_entry bk e
 recorded bk (records.Strike i) = with_strike bk i
 
--- the book after one record after the other
+-- the book after a list of records, one after the other
 abbrev pub replay : Book → List Record → Book
 replay bk [] = bk
 replay bk (r ∷ rs) = replay (recorded bk r) rs

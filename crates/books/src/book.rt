@@ -10,7 +10,7 @@ use logic::records::{Node, RawEntry, RawNode, StoredEntry};
 use std::alloc::{AllocError, Global};
 
 // A book to read. Its meaning is a lawful book: a list of nodes and a list of entries with live marks. A
-// question changes nothing, and its answer depends on the meaning alone.
+// query changes nothing, and its answer depends on the meaning alone.
 pub trait ReadableBook {
     ghost meaning: { Self → Book };
 
@@ -32,9 +32,10 @@ pub trait ReadableBook {
         ensures { result ≡ stored_at (meaning self.now) i };
 }
 
-// A book that also takes nodes, entries and strikes. `write::Offered` is one call for nodes and for entries.
+// A book to which nodes and entries can be added, and whose entries can be struck. `write::Offered` is one call for
+// nodes and for entries.
 pub trait EditableBook: ReadableBook + Sized + Drop {
-    // An empty book. Only this call can fail for want of memory.
+    // An empty book. Only this call can fail for lack of memory.
     fn new(heap: Global) -> Result<Self, AllocError>
         ensures { IfOk result (λ b. Self.ReadableBook.meaning b ≡ empty) };
 

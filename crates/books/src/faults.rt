@@ -31,7 +31,7 @@ pub enum Reason {
     Unfit(Unfit),
 }
 
-// Why an offer of an R, a node or an entry, is refused, with the count of those in the book.
+// Why an offer of an R (a node or an entry) is refused, with the count of such records in the book.
 #[derive(Clone, Copy, Debug, PartialEq, Eq, Error)]
 #[error_bound(R: Offered)]
 #[error("{} {count}: {reason}", R::NAME)]

@@ -19,7 +19,7 @@ use std::alloc::{AllocError, Global};
 // A record for each node, one for each entry, and one for each entry that is struck.
 const RECORDS: usize = NODES as usize + 2 * ENTRIES as usize;
 
-// The counts of nodes and entries stand beside the records, so that asking for them needs no scan. The memory of
+// The counts of nodes and entries are kept beside the records, so that reading them needs no scan. The memory of
 // all records is reserved when the journal is made.
 #[derive(Drop)]
 pub struct Journal {

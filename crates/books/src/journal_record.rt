@@ -14,7 +14,7 @@ pub(crate) enum Record {
 }
 
 impl Record {
-    // The node, if it is a record of one.
+    // The node, if the record is of a node.
     pub(crate) fn node(&self) -> Option<MarkedNode>
         ensures { result ≡ node_in self.now }
     {

@@ -1,4 +1,4 @@
-// Books that know of each node whether it is plain, and how they test an offered record.
+// Books that store for each node whether it is plain, and their tests of an offered record.
 ghost use Rattle.std.specs.Prelude.{◌≡◌, ◌↔◌, IsOk};
 ghost use Rattle.logic.specs.Concepts.{concepts, plain, is_typical};
 ghost use Rattle.logic.specs.Books.{concept};
@@ -19,14 +19,14 @@ pub(crate) struct MarkedNode {
     pub(crate) plain: bool,
 }
 
-// What stands past the last node.
+// The answer past the last node.
 pub(crate) const NO_NODE: MarkedNode = MarkedNode {
     node: Node::Absent,
     plain: true,
 };
 
 pub(crate) trait MarkedBook: ReadableBook {
-    // Whether no typicality occurs in node i; past the end none does.
+    // Whether node i is plain; past the end it is.
     fn plain_at(&self, i: u16) -> bool
         ensures { result ≡ plain (concept (Self.ReadableBook.meaning self.now) i) };
 }
@@ -51,15 +51,14 @@ fn plain_operands<B: MarkedBook>(book: &B, a: u16, b: u16) -> PlainOperands
     }
 }
 
-// Whether node i is typicality of something.
+// Whether node i is T(c) for some c.
 fn typical_at<B: ReadableBook>(book: &B, i: u16) -> bool
     ensures { result ≡ is_typical (concept (B.meaning book.now) i) }
 {
     typical_node(book.node_at(i))
 }
 
-// The offered node with its mark, or why the book refuses it. Separate from the entry version because the tests
-// differ.
+// The offered node with its mark, or why the book refuses it. Separate from `offered_entry` because the tests differ.
 pub(crate) fn offered_node<B: MarkedBook>(book: &B, raw: RawNode) -> Result<MarkedNode, NodeFault>
     ensures offered { NodeOffered (B.ReadableBook.meaning book.now) raw result }
     ensures exact { IsOk result ↔ NodeFits (B.ReadableBook.meaning book.now) raw }

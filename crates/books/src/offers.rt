@@ -21,7 +21,7 @@ pub struct PlainOperands {
     pub plain_b: bool,
 }
 
-// The first of four tests that fails, in the order of the refusals, for nodes and entries.
+// The first of the four tests that fails, in the order of the refusals; for nodes and for entries.
 fn first_unfit(known: bool, in_range: bool, there: bool, placed: bool) -> Result<(), Unfit>
     ensures { FirstUnfit known in_range there placed result }
 {
@@ -50,7 +50,7 @@ fn node_within_limits(node: Node) -> bool
     }
 }
 
-// By operand: `==` would compare the kinds too, which are not what is tested here.
+// Operand by operand: `==` would compare the kinds too.
 fn node_unused_zero(raw: RawNode) -> bool
     ensures { result ≡ node_unused_zero raw }
 {
@@ -95,14 +95,14 @@ pub fn plain_node(node: Node, plain_operands: PlainOperands) -> bool
     }
 }
 
-// Whether a node is typicality of something.
+// Whether a node is T(c) for some c.
 pub fn typical_node(node: Node) -> bool
     ensures { (cs : List Concept) → result ≡ is_typical (read cs node) }
 {
     matches!(node, Node::Typical(_))
 }
 
-// The node that is offered, or why it does not fit a book of `count` nodes, whose limit is tested apart.
+// The node that is offered, or why it does not fit a book of `count` nodes. Whether the book is full is tested before.
 pub fn judge_node(count: u16, plain_operands: PlainOperands, raw: RawNode) -> Result<Node, Unfit>
     ensures flags { Judged (node_unfit_by count plain_operands raw) (node_of raw) result }
     ensures books { (bk : Book) → length bk.nodes ≡ count
@@ -129,7 +129,7 @@ fn entry_within_limits(entry: Entry) -> bool
     }
 }
 
-// By operand, as above.
+// Operand by operand, as above.
 fn entry_unused_zero(raw: RawEntry) -> bool
     ensures { result ≡ entry_unused_zero raw }
 {
@@ -147,7 +147,7 @@ fn entry_operands_below(count: u16, entry: Entry) -> bool
     }
 }
 
-// Whether typicality is in place in an entry, given whether its node a is typicality of something.
+// Whether typicality is in place in an entry; `typical_a`: its node a is T(c) for some c.
 fn entry_typicality_allowed(entry: Entry, typical_a: bool, plain_operands: PlainOperands) -> bool
     ensures { result ≡ entry_placed_by typical_a plain_operands entry }
 {
@@ -157,8 +157,8 @@ fn entry_typicality_allowed(entry: Entry, typical_a: bool, plain_operands: Plain
     }
 }
 
-// The entry that is offered, or why it does not fit a book of `count` nodes; `typical_a` tells whether node a
-// is typicality of something.
+// The entry that is offered, or why it does not fit a book of `count` nodes; `typical_a`: node a is T(c) for some
+// c.
 pub fn judge_entry(
     count: u16,
     typical_a: bool,

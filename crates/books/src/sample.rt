@@ -1,6 +1,6 @@
-// The sample book, with its records as they are offered: typically a release is paired, typically a yanked release is not, and individual 0
-// is a typical yanked release. Names 0, 1 and 2 are release, yanked and paired. Beside it there are
-// a question and two tableaux, five bytes for each step.
+// The sample book, with its records as they are offered: typically a release is paired, typically a yanked release is
+// not, and individual 0 is a typical yanked release. Names 0, 1 and 2 are release, yanked and paired. Besides, a
+// question and two tableaux, with five bytes for each step.
 use logic::records::{RawEntry, RawNode};
 
 // release, yanked, paired, T(release), release and yanked, T(release and yanked), not paired
@@ -42,7 +42,7 @@ pub const NODES: [RawNode; 7] = [
     },
 ];
 
-// every element of node 3 is in node 2, every element of node 5 is in node 6, individual 0 holds node 5
+// every element of node 3 is in node 2, every element of node 5 is in node 6, individual 0 is in node 5
 pub const ENTRIES: [RawEntry; 3] = [
     RawEntry {
         kind: 1,
@@ -79,8 +79,8 @@ pub const REFUTATION: [u8; 40] = [
     3, 0, 0, 0, 12, 2, 0, 4, 0,
 ];
 
-// A wrong hand-in over the book: 1 2 0, 8 0 0, 4 1 0, 2 0 0, 9 5 0, 12 3 6, 12 2 6. The last step is to close the branch
-// by a node that is barred and another one that is admitted.
+// A wrong hand-in over the book: 1 2 0, 8 0 0, 4 1 0, 2 0 0, 9 5 0, 12 3 6, 12 2 6. The last step would close the
+// branch with two different nodes, one barred and one admitted.
 pub const WRONG_STEPS: [u8; 35] = [
     1, 2, 0, 0, 0, 8, 0, 0, 0, 0, 4, 1, 0, 0, 0, 2, 0, 0, 0, 0, 9, 5, 0, 0, 0, 12, 3, 0, 6, 0, 12,
     2, 0, 6, 0,

@@ -1,4 +1,4 @@
-// Writing a whole list of records, into any editable book.
+// Writing a list of records into any editable book.
 ghost use Rattle.books.specs.Answers.{Offer, nodes, entries, OfferAnswer};
 ghost use Rattle.books.specs.Writing.{ListAnswer};
 
@@ -10,7 +10,7 @@ use logic::records::{RawEntry, RawNode};
 pub trait Offered: Copy {
     ghost offer: { Offer Self };
 
-    // What a message calls it.
+    // Its name in a message.
     const NAME: &'static str;
 
     // Offers the record.

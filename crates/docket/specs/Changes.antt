@@ -1,6 +1,6 @@
 -- What a call changes, and what each change makes of a docket.
--- Change: the changes. change: what a call changed. State: what a docket is. granted_event: a change as an event of
--- the table of standings. book_after, standing_after, used_after: the parts of the state afterwards. after: all of it.
+-- Change: the changes. change: what a call changed. State: the state of a docket. granted_event: a change as an event
+-- of the table of standings. book_after, standing_after, used_after: the parts of the state afterwards. after: all.
 -- Assumes nothing.
 use Rattle.std.specs.Prelude.{ℕ, Bool, List, Option, Some, None, Ok, Err, Result}
 use Rattle.logic.specs.declared.records.Node.{Node}
@@ -17,8 +17,8 @@ use Rattle.docket.specs.declared.standing.Granted.TheVariants.{Entered, Struck, 
 use Rattle.docket.specs.Standings.{next}
 use Rattle.docket.specs.Events.{Event, Event.node, Event.enter, Event.strike, Event.refute, Event.show, Event.standing}
 
--- nothing; a node came; an entry was taken, as this number; the entry of this number was struck; a tableau with
--- these steps was accepted; a model was accepted
+-- nothing; a node was added; an entry was added, with this number; the entry of this number was struck; a tableau
+-- with these steps was accepted; a model was accepted
 pub data Change : Type 0 where
   nothing : Change
   node_came : Node → Change
@@ -41,7 +41,7 @@ change (refute bs ls r) = if_granted r (λ n. tableau_accepted (decoded bs))
 change (show bs o list r) = if_granted r (λ n. model_accepted)
 change (standing r) = nothing
 
--- what its book means, where it stands, and which entries the last accepted tableau used
+-- the book, the standing, and the entries that the last accepted tableau used
 pub record State : Type 0 where
   pub book : Book
   pub standing : Standing
@@ -54,7 +54,7 @@ book_after (entry_taken i e) bk = with_entry bk e
 book_after (entry_struck i) bk = with_strike bk i
 book_after c bk = bk
 
--- the event of the table, if the change is one; `used` has the entries that the last accepted tableau used
+-- the change as an event of the table, if it is one; `used`: the entries that the last accepted tableau used
 abbrev pub granted_event : (ℕ → Bool) → Change → Option Granted
 granted_event used (entry_taken i e) = Some Entered
 granted_event used (entry_struck i) = Some (Struck (used i))
@@ -62,7 +62,7 @@ granted_event used (tableau_accepted ss) = Some Closed
 granted_event used model_accepted = Some Satisfied
 granted_event used c = None
 
--- the standing stays where the change is no event of the table
+-- the standing stays if the change is no event of the table
 abbrev pub standing_after : Option Granted → Standing → Standing
 standing_after (Some event) s = next s event
 standing_after None s = s

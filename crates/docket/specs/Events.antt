@@ -1,4 +1,4 @@
--- The calls of a docket, each with what it was handed and what it answered.
+-- The calls of a docket, each with its arguments and its answer.
 -- Assumes nothing.
 use Rattle.std.specs.Prelude.{ℕ, List, Result}
 use Rattle.logic.specs.declared.records.RawNode.{RawNode}
@@ -8,8 +8,8 @@ use Rattle.orders.specs.Masks.{Preference}
 use Rattle.docket.specs.declared.fault.Fault.{Fault}
 use Rattle.docket.specs.declared.standing.Standing.{Standing}
 
--- Refute is handed bytes and three lists, of these lengths. Show is handed bytes, an order, by what it means,
--- and a list, by what it holds afterwards; its length stays.
+-- Refute has bytes and the lengths of its three lists. Show has bytes, the meaning of its order, and the
+-- contents of its list afterwards, which has the same length as before.
 pub data Event : Type 0 where
   node : RawNode → Result ℕ Fault → Event
   enter : RawEntry → Result ℕ Fault → Event

@@ -1,7 +1,7 @@
 -- What a history of calls tells by itself. A history has the newest call first.
--- granted_nodes, granted_entries: what the granted calls gave. Stands: an entry that was taken and not
+-- granted_nodes, granted_entries: the records of the granted calls. Stands: an entry was added and not
 -- struck since. last_steps: the last accepted tableau. Tabled, Stood: the standing, by the table.
--- Lifts, Takes: calls that move it.
+-- Lifts, Takes: calls that change it.
 -- Assumes nothing.
 use Rattle.std.specs.Prelude.{◌≡◌, ◌≢◌, ℕ, true, ◌⊎◌, List, [], ◌∷◌, ◌++◌, IfSome}
 use Rattle.logic.specs.declared.records.Node.{Node}
@@ -14,17 +14,17 @@ use Rattle.docket.specs.Standings.{Occurs}
 use Rattle.docket.specs.Events.{Event}
 use Rattle.docket.specs.Changes.{Change, node_came, entry_taken, entry_struck, tableau_accepted, change, granted_event, standing_after}
 
--- with the node that came
+-- the list after a change: with the node that was added
 abbrev pub nodes_after : Change → List Node → List Node
 nodes_after (node_came n) ns = ns ++ n ∷ []
 nodes_after c ns = ns
 
--- with the entry that was taken
+-- the list after a change: with the entry that was added
 abbrev pub entries_after : Change → List Entry → List Entry
 entries_after (entry_taken i e) es = es ++ e ∷ []
 entries_after c es = es
 
--- whether entry i stands after a change, where P says whether it stood before
+-- whether entry i is live after a change; P: it was live before
 abbrev pub StandsAfter : ℕ → Change → Type 0 → Type 0
 StandsAfter i (entry_taken j e) P = (i ≡ j) ⊎ P
 StandsAfter i (entry_struck j) P = (i ≢ j) × P
@@ -45,12 +45,12 @@ abbrev pub granted_entries : List Event → List Entry
 granted_entries [] = []
 granted_entries (e ∷ h) = entries_after (change e) (granted_entries h)
 
--- enter took an entry as number i, and no strike has removed it since
+-- enter added an entry with number i, and no strike has removed it since
 abbrev pub Stands : ℕ → List Event → Type 0
 Stands i [] = ⊥
 Stands i (e ∷ h) = StandsAfter i (change e) (Stands i h)
 
--- the steps of the last accepted tableau; none where none was accepted
+-- the steps of the last accepted tableau; none if none was accepted
 abbrev pub last_steps : List Event → List Step
 last_steps [] = []
 last_steps (e ∷ h) = steps_after (change e) (last_steps h)
@@ -70,6 +70,6 @@ pub data Stood : List Event → Standing → Type 0 where
 abbrev pub Lifts : List Event → Event → Type 0
 Lifts h e = (i : ℕ) × (change e ≡ entry_struck i) × (names (last_steps h) i ≡ true)
 
--- the call is an enter that takes an entry
+-- the call is a granted enter
 abbrev pub Takes : Event → Type 0
 Takes e = (i : ℕ) × (x : Entry) × (change e ≡ entry_taken i x)

@@ -1,6 +1,6 @@
 -- The law of all runs of a docket. A history has the newest call first.
--- Law: where the docket is after a history. StepLaw: the next call, whichever it is. DocketLaw: both, after every
--- run. RunsExtend: a run goes on by lists of events. BookCallsLift: calls of a book as calls of a docket.
+-- Law: the state after a history. StepLaw: every next call. DocketLaw: both, after every
+-- run. RunsExtend: any list of events extends a run. BookCallsLift: calls of a book as calls of a docket.
 -- Handed, ModelsHanded, TableauxHanded: models and tableaux as they are handed over.
 -- Assumes nothing.
 use Rattle.std.specs.Prelude.{◌≡◌, ◌≢◌, ℕ, ◌≤◌, ◌↔◌, List, ◌++◌, map, length, IsTrue, IsOk, Result}
@@ -30,13 +30,13 @@ use Rattle.docket.specs.Answers.{Answered, event_of}
 use Rattle.docket.specs.Runs.{Moves, MovesAll, Run}
 use Rattle.docket.specs.Histories.{granted_nodes, granted_entries, Stands, last_steps, Tabled, Stood, Lifts, Takes}
 
--- what holds after every list of calls, granted or refused, whatever each was handed
+-- what holds after every list of calls, granted or refused and with any arguments
 pub record Law (h : List Event) (s : State) : Type 0 where
   -- the book is lawful; its nodes and entries are those of the granted calls, in order
   pub lawful : Lawful s.book
   pub nodes : s.book.nodes ≡ granted_nodes h
   pub entries : map (λ (l : StoredEntry). l.entry) s.book.entries ≡ granted_entries h
-  -- the live entries are those that enter took and strike has not since removed
+  -- the live entries are those that enter added and no later strike removed
   pub live : (i : ℕ) → IsTrue (stored_at s.book i).live ↔ Stands i h
   -- the entries used are those that the last accepted tableau names
   pub used : (i : ℕ) → s.used i ≡ names (last_steps h) i
@@ -53,8 +53,8 @@ Handed m bs o =
     HasModelLength bs
     × ((f : Compatible (interpretation_of bs) o) × Alike m (model_of (interpretation_of bs) o f))
 
--- a refute that is handed a closed tableau over the live entries, written within the limits, and lists that
--- are long enough for it
+-- a refute that is handed the bytes of a closed tableau over the live entries that is within the limits and
+-- fits the lists
 abbrev pub Closing : Book → Event → Type 0
 Closing bk e =
     (bs : List ℕ) × (ls : Lengths) × (r : Result ℕ Fault)
@@ -66,34 +66,34 @@ Modelling bk e =
     (bs : List ℕ) × (o : Preference) × (list : List ℕ) × (r : Result ℕ Fault)
     × (e ≡ show bs o list r) × (m : Model) × Handed m bs o × Satisfies m bk × (length bk.nodes ≤ length list)
 
--- what holds of the next call, whichever it is and whatever it is handed
+-- what holds of every next call, with any arguments
 pub record StepLaw (h : List Event) (s : State) (e : Event) (t : State) : Type 0 where
   pub answer : Answered s.book s.standing e
   pub table : Tabled h e s.standing t.standing
-  -- a call that changes nothing, as a refused one, leaves book, standing and used entries as they were
+  -- a call that changes nothing, such as a refused one, leaves book, standing and used entries as they were
   pub unchanged : change e ≡ nothing → t ≡ s
-  -- from refuted it moves exactly when it is a strike of an entry used, from shown when enter takes
-  -- an entry
+  -- the standing leaves refuted exactly at a strike of a used entry, and shown exactly at a granted
+  -- enter
   pub from_refuted : s.standing ≡ Refuted → (t.standing ≢ Refuted) ↔ Lifts h e
   pub from_shown : s.standing ≡ Shown → (t.standing ≢ Shown) ↔ Takes e
-  -- refute makes it refuted on every closed tableau, show makes it shown on every model
+  -- refute of a closed tableau makes the docket refuted, show of a model makes it shown
   pub refutes : Closing s.book e → t.standing ≡ Refuted
   pub shows : Modelling s.book e → t.standing ≡ Shown
-  -- the same of the tree: a closed tableau over the live entries, within the limits, that fits the lists has
-  -- bytes, and refute of them is accepted and makes it refuted
+  -- in terms of the tree: a closed tableau over the live entries that is within the limits and fits the lists
+  -- has bytes, and refute accepts them and makes the docket refuted
   pub trees : (k : Closed s.book start) (ls : Lengths) → WithinLimits k → limits.FitsLists ls k →
       Bytes (encoded (writing k))
       × ((r : Result ℕ Fault) → e ≡ refute (encoded (writing k)) ls r →
       IsOk r × (t.standing ≡ Refuted))
-  -- the same of the model: a model of the live entries, of at most 32 elements, has bytes, and show of them,
-  -- with any strict order that is its "better" and a list long enough, is accepted and makes it shown
+  -- in terms of the model: a model of the live entries with at most 32 elements has bytes, and show accepts
+  -- them, with any strict order that is its "better" and a list long enough, and makes the docket shown
   pub models : (m : Model) (o : Preference) → m.size ≤ 32 → Satisfies m s.book →
       Strict o → MeansBetter m o →
       Bytes (model_bytes m)
       × ((list : List ℕ) (r : Result ℕ Fault) → length s.book.nodes ≤ length list →
       e ≡ show (model_bytes m) o list r → IsOk r × (t.standing ≡ Shown))
 
--- where the docket is, and the next call
+-- the state, and every next call
 pub record LawfulRun (h : List Event) (s : State) : Type 0 where
   pub here : Law h s
   pub next : (e : Event) (t : State) → Moves e s t → StepLaw h s e t
@@ -102,12 +102,12 @@ pub record LawfulRun (h : List Event) (s : State) : Type 0 where
 abbrev pub DocketLaw : Type 0
 DocketLaw = (h : List Event) (s : State) → Run h s → LawfulRun h s
 
--- a run goes on by a list of events
+-- any list of events extends a run
 abbrev pub RunsExtend : Type 0
 RunsExtend = (h es : List Event) (s t : State) → Run h s → MovesAll es s t → Run (es ++ h) t
 
--- Calls made of a book are calls of a docket that has it: what is proved of any working book, by a list of its
--- calls, so holds of dockets.
+-- Calls of a book are calls of a docket that has it. So what is proved of any working book, by a list of its
+-- calls, holds for dockets.
 abbrev pub BookCallsLift : Type 0
 BookCallsLift =
     (cs : List BookCall) (s : State) (bk : Book) → CalledAll cs s.book bk →
@@ -119,7 +119,7 @@ ModelsHanded =
     (m : Model) → m.size ≤ 32 → (o : Preference) → Strict o → MeansBetter m o
     → Bytes (model_bytes m) × Handed m (model_bytes m) o
 
--- every closed tableau within the limits that fits the lists can be handed over as bytes
+-- every closed tableau that is within the limits and fits the lists can be handed over as bytes
 abbrev pub TableauxHanded : Type 0
 TableauxHanded =
     (bk : Book) → Lawful bk → (ls : Lengths) (t : Closed bk start)

@@ -1,6 +1,6 @@
 -- the table of standings
 pub mod Standings
--- calls with what they were handed and answered
+-- calls with their arguments and answers
 pub mod Events
 -- the number and the place of each fault
 pub mod Faults
@@ -8,9 +8,9 @@ pub mod Faults
 pub mod Changes
 -- what calls answer
 pub mod Answers
--- how calls move a docket, runs, and what a docket is to its callers
+-- how calls change a docket, runs, and what a docket is in contracts
 pub mod Runs
--- what a history tells
+-- what a history determines
 pub mod Histories
 -- the law of all runs
 pub mod Laws

@@ -15,7 +15,7 @@ use Rattle.docket.specs.Events.{Event}
 abbrev Lent : Type 0 → Type 0
 Lent O = Call (Bor (List ℕ)) O
 
--- the event is that call, whatever it answered; ls and len are the lengths of the lists that are lent
+-- the event is that call, with any answer; ls and len are the lengths of the lent lists
 abbrev pub Asks : {O : Type 0} → (O → Preference) → Lengths → ℕ → Lent O → Event → Type 0
 Asks meaning ls len (Node raw) e = (r : Result ℕ Fault) × (e ≡ Event.node raw r)
 Asks meaning ls len (Enter raw) e = (r : Result ℕ Fault) × (e ≡ Event.enter raw r)
@@ -26,7 +26,7 @@ Asks meaning ls len (Show bs o) e =
     × (length list ≡ len) × (e ≡ Event.show bs.now (meaning o) list r)
 Asks meaning ls len Standing e = (r : standings.Standing) × (e ≡ Event.standing r)
 
--- the history, the newest first, is that of the calls, in their order
+-- the history (newest first) is that of the calls (oldest first)
 pub data Played {O : Type 0} (meaning : O → Preference) (ls : Lengths) (len : ℕ) :
     List (Lent O) → List Event → Type 0 where
   none : Played meaning ls len [] []

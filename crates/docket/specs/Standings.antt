@@ -1,5 +1,5 @@
 -- The docket's table: the standing after a granted call, by the standing before it.
--- next: the table. Occurs: a cell that can be met.
+-- next: the table. Occurs: a cell that can be reached.
 -- Assumes nothing.
 use Rattle.std.specs.Prelude.{if◌then◌else◌}
 use Rattle.docket.specs.declared.standing.Standing.{Standing}

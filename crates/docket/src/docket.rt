@@ -27,7 +27,7 @@ pub struct Docket<B: EditableBook> {
     used: Used,
 }
 
-// To a contract it is a state of a run, and none but those that a run of calls has reached.
+// In contracts a docket is its book, standing and used entries; the invariant says that some run reaches it.
 impl<B: EditableBook> Model for Docket<B> {
     ghost use Rattle.docket.specs.Runs.{Contents, contents, Reached};
 
@@ -51,7 +51,7 @@ impl<B: EditableBook> Docket<B> {
         })
     }
 
-    // Where the docket stands. A run has led here, and of whichever has, the whole law holds.
+    // Returns the standing and extends the run. Some run leads here, and the whole law holds of each that does.
     pub fn standing(&self) -> Standing
         ensures answer { result ≡ self.now.standing }
         ensures run { MovesAll (Event.standing result ∷ [])
@@ -64,14 +64,14 @@ impl<B: EditableBook> Docket<B> {
         self.standing
     }
 
-    // Appends a node to the book, and answers its number.
+    // Appends a node to the book, and returns its number.
     pub fn node(&mut self, raw: RawNode) -> Result<u16, Fault>
         ensures { MovesAll (Event.node raw result ∷ []) (state_of self.old) (state_of self.new) }
     {
         Ok(self.book.node(raw)?)
     }
 
-    // Appends an entry to the book, and answers its number.
+    // Appends an entry to the book, and returns its number.
     pub fn enter(&mut self, raw: RawEntry) -> Result<u16, Fault>
         ensures { MovesAll (Event.enter raw result ∷ []) (state_of self.old) (state_of self.new) }
     {
@@ -91,8 +91,8 @@ impl<B: EditableBook> Docket<B> {
         Ok(())
     }
 
-    // Judges a tableau against the book, and answers how many entries it used. The lists are left
-    // blank.
+    // Judges a tableau against the book, and returns how many entries it used. The lists are blank
+    // afterwards.
     pub fn refute(
         &mut self,
         bytes: &[u8],
@@ -113,7 +113,7 @@ impl<B: EditableBook> Docket<B> {
         Ok(count)
     }
 
-    // Judges a model against the book, with an order of any kind, and answers the number of its elements. The
+    // Judges a model against the book, with an order of any type, and returns the number of its elements. The
     // list is left as the judge leaves it.
     pub fn show<O: Order>(&mut self, bytes: &[u8], order: &O, list: &mut [u32]) -> Result<u8, Fault>
         ensures { MovesAll (Event.show bytes.now (O.Order.meaning order.now) list.new result ∷ [])

@@ -1,4 +1,4 @@
-// Why a docket refuses a call: the fault of the lower call whole, and the call.
+// Why a docket refuses a call: the call, with the whole fault of the book or of the judge.
 ghost use Rattle.std.specs.Prelude.{◌≡◌};
 ghost use Rattle.docket.specs.Faults.{fault_number, fault_place};
 ghost use Rattle.docket.specs.declared.fault.Fault.TheVariants.{Node, Enter, Strike, Refute, Show};
@@ -39,7 +39,7 @@ impl Refusal for Fault {
     }
 }
 
-// An impl for each lower fault: derived ones have no `from_gives`, by which a clause reads what a `?` makes.
+// One impl for each lower fault, by hand: derived ones lack `from_gives`, which tells a clause what `?` converts to.
 impl From<NodeFault> for Fault {
     ghost from_gives = { λ e f. f ≡ Node e };
 

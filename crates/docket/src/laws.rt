@@ -4,10 +4,10 @@ ghost use Rattle.docket.specs.Laws.{DocketLaw, RunsExtend, BookCallsLift, Models
 use judge::laws::tableaux_have_bytes;
 use models::laws::models_encoded;
 
-// After every list of calls, granted or refused, whatever each is handed, the whole law holds, of where the
-// docket is and of whichever call comes next. A run goes on by any list of events. What is done to a book by
-// its calls is a list of calls of a docket. Every model of at most 32 elements can be handed over, and every
-// closed tableau within the limits.
+// After every list of calls, granted or refused and with any arguments, the whole law holds, of the docket's
+// state and of every next call. Any list of events extends a run. Calls of a book are calls of a docket. Every
+// model of at most 32 elements can be handed over as bytes, and so can every closed tableau that is within the
+// limits and fits the lists.
 pub fn docket_law()
     ensures law { DocketLaw }
     ensures extend { RunsExtend }

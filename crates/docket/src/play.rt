@@ -17,7 +17,7 @@ use logic::tableau::{Constraint, Edge};
 use orders::order::Order;
 use std::alloc::{AllocError, Global};
 
-// One call, and what it is handed besides the working lists: bytes S and an order O. Both are type parameters, since
+// One call, with its arguments except the working lists: bytes S and an order O. Both are type parameters, since
 // an enum that holds a reference itself cannot yet hold an order that has an invariant.
 #[derive(Drop)]
 pub enum Call<S, O> {
@@ -29,7 +29,7 @@ pub enum Call<S, O> {
     Standing,
 }
 
-// Makes one call; what it answers is left to the event.
+// Makes one call; its answer is in the event.
 fn make<B: EditableBook, O: Order>(
     docket: &mut Docket<B>,
     call: &Call<&[u8], O>,
@@ -88,9 +88,9 @@ fn make_all<B: EditableBook, O: Order>(
     Ok(docket)
 }
 
-// Plays the calls, one after the other, on a new docket: a run has led to what is answered, its events are
-// these calls in their order, and the whole law holds of it. Whatever is answered, every record of the lent
-// lists is blank afterwards, and every number is 0. The error: no memory for the new book.
+// Plays the calls, one after the other, on a new docket, and returns it. A run leads to it, whose events are
+// these calls in order, and the whole law holds of it. Afterwards every record of the lent lists is blank, and
+// every set is 0, also after an error. The error: no memory for the new book.
 pub fn play<B: EditableBook, O: Order>(
     heap: Global,
     calls: &[Call<&[u8], O>],

@@ -1,4 +1,4 @@
-// Where a docket stands, and the granted calls that can move it.
+// The standing of a docket, and the granted calls that can change it.
 ghost use Rattle.std.specs.Prelude.{◌≡◌};
 ghost use Rattle.docket.specs.Standings.{next};
 
@@ -6,17 +6,17 @@ ghost use Rattle.docket.specs.Standings.{next};
 pub enum Standing {
     // nothing is known of the live entries
     Open,
-    // they have no model
+    // the live entries have no model
     Refuted,
-    // they have one
+    // the live entries have a model
     Shown,
 }
 
 #[derive(Clone, Copy)]
 pub(crate) enum Granted {
-    // an entry was taken
+    // an entry was added
     Entered,
-    // an entry was struck, and the last accepted tableau used it or not
+    // an entry was struck; `used`: the last accepted tableau used it
     Struck { used: bool },
     // a tableau was accepted
     Closed,
@@ -25,8 +25,8 @@ pub(crate) enum Granted {
 }
 
 impl Standing {
-    // Follows the table: standing and event together decide the next standing. In the two cells that never occur it
-    // stays.
+    // Follows the table: standing and event together decide the next standing. In the two cells that never occur the
+    // standing stays.
     pub(crate) fn follow(&mut self, event: Granted)
         ensures { self.new ≡ next self.old event }
     {

@@ -1,5 +1,5 @@
 -- The hand-in in a folder, and its verdict.
--- ReadFrom: what is read of the files. HandInMark: the verdict on what was read. FilesMark: the verdict on the files.
+-- ReadFrom: what is read from the files. HandInMark: the verdict on what was read. FilesMark: the verdict on the files.
 -- Unread: the file that an error names.
 -- Assumes nothing.
 use Rattle.std.specs.Prelude.{◌≡◌, ◌⊎◌, ℕ, List, IsSome, IsNone, IsSomeAnd, MatchOption, codes}
@@ -9,7 +9,7 @@ use Rattle.folders.specs.declared.hand_in.HandIn.{HandIn}
 use Rattle.folders.specs.declared.hand_in.HandIn.TheVariants.{Tableau, Model}
 use Rattle.folders.specs.Files.{Files, counted}
 
--- The hand-in has the bytes of the files that count: with `steps.bin` it is a tableau, without it a model.
+-- The hand-in has those bytes of the files that count: with `steps.bin` it is a tableau, without it a model.
 abbrev pub ReadFrom : Files → HandIn → Type 0
 ReadFrom fs (Tableau book steps) =
     (marked_part book.items ≡ counted fs.book) × IsSomeAnd fs.steps (λ bs. marked_part steps.items ≡ marked_part bs)
@@ -29,7 +29,7 @@ FilesMark fs v =
     MatchOption fs.steps (ModelMark (counted fs.book) (counted fs.model) (counted fs.pairs) v)
     (λ bs. TableauMark (counted fs.book) (marked_part bs) v)
 
--- A file of this name is there, and it is part of the hand-in. Model and pairs are part of it only without `steps.bin`.
+-- A file of this name exists and is part of the hand-in. Model and pairs are part of it only without `steps.bin`.
 abbrev pub Unread : Files → List ℕ → Type 0
 Unread fs name =
     ((name ≡ codes "book.bin") × IsSome fs.book)

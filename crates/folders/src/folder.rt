@@ -10,7 +10,7 @@ use std::io;
 use std::io::Read;
 use verdict::mark::WHOLE;
 
-/// A folder, as a hand-in is read from it.
+/// A folder from which a hand-in is read.
 pub trait Folder {
     /// A file that is open for reading.
     type File: Read + Drop;

@@ -25,7 +25,7 @@ pub enum HandIn {
     },
 }
 
-/// A file of a hand-in is there and cannot be read.
+/// A file of a hand-in is there, but cannot be read.
 #[derive(Drop)]
 pub struct ReadFault {
     /// The name of the file.

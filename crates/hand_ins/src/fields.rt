@@ -13,7 +13,7 @@ struct Field {
     number: u32,
 }
 
-// The field that a line sets: of an interpretation, or one byte of any file.
+// The field that a line sets: one of an interpretation, or one byte of any file.
 fn field_of(key: &str, numbers: &[u32]) -> Option<Field> {
     let (at, size, number) = match (key, numbers) {
         ("elements", [n]) => (0, One, *n),

@@ -20,7 +20,7 @@ enum File {
 pub(crate) struct HandIn<'a> {
     pub(crate) name: &'a str,
     heap: Global,
-    // true: a tableau; false: a model
+    // otherwise it is a model
     is_tableau: bool,
     book: Vec<u8>,
     steps: Vec<u8>,

@@ -1,9 +1,9 @@
-// How many hand-ins came to what.
+// Counts of the verdicts.
 use anyhow::{Context, Result};
 use std::io;
 use verdict::Verdict;
 
-// Refusals have the numbers below this one.
+// The numbers of refusals are below this one.
 const NUMBERS: usize = 21;
 
 #[derive(Clone, Copy, Default)]
@@ -17,7 +17,7 @@ pub(crate) struct Tally {
 }
 
 impl Tally {
-    // A refusal whose number is not of the table is an error.
+    // A refusal number that is not below `NUMBERS` is an error.
     pub(crate) fn count(&mut self, verdict: Verdict, as_expected: bool) -> Result<()> {
         let place = if as_expected {
             &mut self.as_expected

@@ -12,7 +12,7 @@ use Rattle.logic.specs.Limits.{Lengths}
 use Rattle.judge.specs.declared.working.Split.{Split}
 use Rattle.judge.specs.declared.working.Lists.{Lists}
 
--- form 0 is holds
+-- form 0 is Holds
 abbrev pub no_constraint : Constraint
 no_constraint = constraint 0 Holds 0
 
@@ -40,7 +40,7 @@ lengths_of l = lengths l.constraints.now l.edges.now l.splits.now
 abbrev pub NoneInUse : Lists → Type 0
 NoneInUse l = AllBlank (lengths_of l) l.constraints.now l.edges.now l.splits.now
 
--- a lent list is still the same, and as long
+-- a lent list is still the same one, with the same length
 pub record SameList {A : Type 0} (before after : MutBor (List A)) : Type 0 where
   pub reference : after.ghost_name ≡ before.ghost_name
   pub long : length after.now ≡ length before.now

@@ -1,6 +1,6 @@
 -- The number and the place of each case of the fault of refute.
 -- step_fault_number, refute_fault_number, refute_fault_place: the number and the place of a fault.
--- HasNumberAndPlace: what they have to be for the bytes that were handed in.
+-- HasNumberAndPlace: what they must be for the bytes that were handed in.
 -- Assumes nothing.
 use Rattle.std.specs.Prelude.{◌≡◌, ℕ, List, length}
 use Rattle.judge.specs.declared.faults.RefuteFault.{RefuteFault}
@@ -31,9 +31,8 @@ refute_fault_place (AtStep i f) = i
 refute_fault_place (AfterClosing i) = i
 refute_fault_place (NotClosed n) = n
 
--- Case by case, the number and the place of the fault, written out. This repeats the definitions above, and has to: they
--- stand beside the fault and could be changed together with its code. The clause of `refute` then fails, so a wrong number
--- or place in them is refused at the call.
+-- Case by case, the number and the place of the fault, written out. This repeats the definitions above on purpose: they
+-- could be changed together with the code of the fault, but then this clause of `refute` does not prove.
 abbrev pub HasNumberAndPlace : List ℕ → RefuteFault → Type 0
 HasNumberAndPlace bs (BadLength n) = (refute_fault_number (BadLength n) ≡ 7) × (refute_fault_place (BadLength n) ≡ length bs)
 HasNumberAndPlace bs (AtStep i Malformed) = (refute_fault_number (AtStep i Malformed) ≡ 8) × (refute_fault_place (AtStep i Malformed) ≡ i)

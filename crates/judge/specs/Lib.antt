@@ -4,7 +4,7 @@ pub mod ShowFaults
 pub mod NodeSets
 -- what show answers
 pub mod ShowAnswers
--- the number and the place of each fault
+-- the number and the place of each fault of refute
 pub mod Faults
 -- lists of records that have a blank
 pub mod Lists
@@ -18,7 +18,7 @@ pub mod Ops
 pub mod Members
 -- what a step does, computed
 pub mod StepEffects
--- a tableau under way
+-- a tableau while it is checked
 pub mod Progress
 -- the steps that are taken, and what each does
 pub mod Traces
@@ -30,5 +30,5 @@ pub mod Reasons
 pub mod Taking
 -- what refuting answers
 pub mod Refutations
--- what is proved of them
+-- what is proved of the promises
 pub mod Laws

@@ -18,6 +18,6 @@ member_count u = count_by (λ mark. mark) u.marks
 abbrev pub with_named : List Bool → Step → List Bool
 with_named marks s = if s.op == 1 || s.op == 2 then slice_set marks s.a true else marks
 
--- the marks of a list of steps, from none on
+-- the marks of a list of steps
 abbrev pub marks_of : List Step → List Bool
 marks_of ss = fold with_named (replicate 256 false) ss

@@ -1,5 +1,5 @@
 -- What a working list of sets holds.
--- Zeros: nothing. HasNodeMasks: the mask of each node, and then zeros. HasNodeSets: that they are the sets of a model.
+-- Zeros: only zeros. HasNodeMasks: the mask of each node, and then zeros. HasNodeSets: they are the sets of a model.
 -- NodeSetsAnswer: what filling a list answers.
 -- Assumes nothing.
 use Rattle.std.specs.Prelude.{◌≡◌, ℕ, ◌<◌, ◌≤◌, List, length, Ok, Err, Result, slice_index}
@@ -17,8 +17,8 @@ use Rattle.models.specs.NodeMasks.{MaskOfNode}
 abbrev pub Zeros : List ℕ → Type 0
 Zeros list = (i : ℕ) → slice_index list i ≡ 0
 
--- At the place of each node is its mask, by those of its operands, and then come zeros. As the operands of a node stand
--- before it, only one list of a length is such, whatever the order and the interpretation.
+-- At the place of each node is its mask, by those of its operands; zeros follow. Since the operands of a node precede
+-- it, there is only one such list of each length, whatever the order and the interpretation.
 pub record HasNodeMasks (bk : Book) (i : Interpretation) (o : Preference) (list : List ℕ) : Type 0 where
   pub masks : (k : ℕ) → k < length bk.nodes → MaskOfNode i o list (node_at bk k) (slice_index list k)
   pub rest : (k : ℕ) → length bk.nodes ≤ k → slice_index list k ≡ 0
@@ -28,9 +28,9 @@ pub record HasNodeSets (m : Model) (bk : Book) (list : List ℕ) : Type 0 where
   pub sets : (i : ℕ) → i < length bk.nodes → Extension m (concept bk i) (slice_index list i)
   pub rest : (i : ℕ) → length bk.nodes ≤ i → slice_index list i ≡ 0
 
--- The masks, whatever the order. They are sets of a model only where the order is one of the interpretation's elements:
--- then they are those of the model that the two mean. Or, where the list has not a place for each node, its length by
--- number 17, and zeros.
+-- The masks, whatever the order. They are sets of a model only if the order has the interpretation's elements: then
+-- they are those of the model that the two mean. Or, if the list has no place for some node, refusal 17 with its
+-- length, and zeros.
 abbrev pub NodeSetsAnswer : Book → Interpretation → Preference → List ℕ → Result (Unit {0}) (BadLength 17) → Type 0
 NodeSetsAnswer bk i o list (Ok u) = (length bk.nodes ≤ length list) × HasNodeMasks bk i o list × ((f : Compatible i o) → HasNodeSets (model_of i o f) bk list)
 NodeSetsAnswer bk i o list (Err e) = (length list < length bk.nodes) × (bad_length_number e ≡ 17) × (bad_length_place e ≡ length list) × Zeros list

@@ -60,7 +60,7 @@ has_operand Label br b = nat_lt b br.next
 has_operand Edge br b = nat_lt b (length br.edges)
 has_operand Constraint br b = nat_lt b (length br.constraints)
 
--- a test of the op of a step; where the op is unknown, the answer is given
+-- a test of an op; the first argument is the answer for an unknown op
 abbrev pub test_op : Bool → (Op → Bool) → Option Op → Bool
 test_op unknown test None = unknown
 test_op unknown test (Some op) = test op
@@ -69,11 +69,11 @@ test_op unknown test (Some op) = test op
 abbrev pub malformed : Step → Bool
 malformed s = test_op true (λ op. unused_not_zero (operand_of op) s.b) (op_of s.op)
 
--- the entry that is named was never entered
+-- the step names an entry that was never entered
 abbrev pub never_entered : Book → Step → Bool
 never_entered bk s = test_op false (λ op. names_entry op && nat_le (length bk.entries) s.a) (op_of s.op)
 
--- the branch has the constraint, edge or label that is named
+-- the branch has the constraint, edge or label that the step names
 abbrev pub has_operands : Op → Branch → Step → Bool
 has_operands op br s = (names_entry op || nat_lt s.a (length br.constraints)) && has_operand (operand_of op) br s.b
 
@@ -81,6 +81,6 @@ has_operands op br s = (names_entry op || nat_lt s.a (length br.constraints)) &&
 abbrev pub lacks_operand : Branch → Step → Bool
 lacks_operand br s = test_op false (λ op. not (has_operands op br s)) (op_of s.op)
 
--- the entry that is named is not live
+-- the step names an entry that is not live
 abbrev pub names_struck : Book → Step → Bool
 names_struck bk s = test_op false (λ op. names_entry op && not (stored_at bk s.a).live) (op_of s.op)

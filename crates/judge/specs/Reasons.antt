@@ -1,7 +1,7 @@
 -- Why a tableau is refused, in the terms of the calculus.
--- WellNamed: a step is well formed and what it names is there. NoRoom: a rule has the step, and there is
--- no room for what it makes. Stopped: the work stands before a step. StepReason, StepsReason, RefuteReason: of each
--- case of the faults.
+-- WellNamed: a step is well formed and what it names exists. NoRoom: a rule permits the step, but there is
+-- no room for its result. Stopped: the checker is before a step. StepReason, StepsReason, RefuteReason: the reason of
+-- each case of the faults.
 -- Assumes nothing.
 use Rattle.std.specs.Prelude.{◌≡◌, ℕ, suc, ◌<◌, true, false, List, length, take}
 use Rattle.logic.specs.declared.tableau.Step.{Step}
@@ -18,20 +18,20 @@ use Rattle.judge.specs.Steps.{decoded, WholeSteps}
 use Rattle.judge.specs.Ops.{malformed, never_entered, lacks_operand, names_struck}
 use Rattle.judge.specs.Progress.{Room, Underway, Finished}
 
--- the step is well formed, and all that it names is there
+-- the step is well formed, and all that it names exists
 pub record WellNamed (bk : Book) (br : Branch) (s : Step) : Type 0 where
   pub formed : malformed s ≡ false
   pub entered : never_entered bk s ≡ false
   pub present : lacks_operand br s ≡ false
   pub live : names_struck bk s ≡ false
 
--- a rule has the step, and there is no room for the branch that it makes
+-- a rule permits the step, but there is no room for the branch that it makes
 pub data NoRoom (bk : Book) (ls : Lengths) (br : Branch) (pending : ℕ) (s : Step) : Type 0 where
   branch_full : {b : Branch} → Extends bk br s b → (Room ls pending b → ⊥) → NoRoom bk ls br pending s
   split_full : {left right : Branch} → Splits bk br s left right → (Room ls (suc pending) left → ⊥) → NoRoom bk ls br pending s
 
--- the steps before step i are taken, a branch is open, and of it, the number of pending splits and
--- step i this holds
+-- the steps before step i are taken, a branch br is open with k splits pending, and P br k s holds,
+-- where s is step i
 pub record Stopped (bk : Book) (ls : Lengths) (ss : List Step) (i : ℕ) (P : Branch → ℕ → Step → Type 0) : Type 0 where
   pub current : Step
   pub here : At ss i current
@@ -51,7 +51,7 @@ StepReason bk ls Struck br pending s =
 StepReason bk ls Misfit br pending s = WellNamed bk br s × NoRule bk br s
 StepReason bk ls Full br pending s = NoRoom bk ls br pending s
 
--- why steps are refused: one of them, one after closing, or that a branch is still open at their end
+-- why steps are refused: one of them is, or one comes after closing, or a branch is still open at the end
 abbrev pub StepsReason : Book → Lengths → List Step → RefuteFault → Type 0
 StepsReason bk ls ss (BadLength n) = ⊥
 StepsReason bk ls ss (AtStep i f) = Stopped bk ls ss i (StepReason bk ls f)

@@ -15,8 +15,8 @@ use Rattle.judge.specs.Steps.{decoded, WholeSteps}
 use Rattle.judge.specs.Members.{member, member_count}
 use Rattle.judge.specs.Reasons.{RefuteReason}
 
--- the bytes are the writing of a closed tableau over the starting branch, within the limits, for which
--- the lists are long enough
+-- the bytes are the writing of a closed tableau over the starting branch that is within the limits and
+-- fits the lists
 pub record Refutation (bk : Book) (ls : Lengths) (bs : List ℕ) : Type 0 where
   pub tableau : Closed bk start
   pub whole : WholeSteps bs
@@ -27,14 +27,14 @@ pub record Refutation (bk : Book) (ls : Lengths) (bs : List ℕ) : Type 0 where
 -- what an accepted tableau shows
 pub record AcceptedTableau (bk : Book) (ls : Lengths) (bs : List ℕ) (u : Used) : Type 0 where
   pub refutation : Refutation bk ls bs
-  -- the set has exactly the entries that the steps name, and is counted
+  -- the set has exactly the entries that the steps name, and its count is their number
   pub named : (i : ℕ) → member u i ≡ names (decoded bs) i
   pub count : member_count u ≡ named_count (decoded bs)
-  -- no finite preferential model makes these entries true, so none satisfies the book
+  -- no finite preferential model makes these entries all true, so none satisfies the book
   pub sound : (m : Model) → NamedTrue m bk (decoded bs) → ⊥
   pub no_model : (m : Model) → Satisfies m bk → ⊥
 
--- Accepted exactly when the bytes refute the book, and refused exactly for its reason.
+-- Accepted exactly when the bytes refute the book, and each fault exactly for its reason.
 pub record RefuteAnswer (bk : Book) (ls : Lengths) (bs : List ℕ) (r : Result Used RefuteFault) : Type 0 where
   pub accepts : Refutation bk ls bs → (u : Used) × (r ≡ Ok u)
   pub accepted : (u : Used) → r ≡ Ok u → AcceptedTableau bk ls bs u

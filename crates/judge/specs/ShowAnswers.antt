@@ -1,8 +1,8 @@
--- What show answers of a book, an interpretation in bytes and an order, and what it leaves in its list.
+-- What show answers for a book, an interpretation in bytes and an order, and what it leaves in its list.
 -- LowestFalse, FirstFalse: the lowest live entry that is false. TrueIfLive, IsLiveAndFalse, FindsFirstFalse: how it is
--- found. ExamineAnswer: what is found in a hand-in. ShowAnswer: what each answer of show means. ShowExact: each is
--- given wherever it fits.
--- ShowsModels: what show says of a model. ShowPromise: all of this.
+-- found. ExamineAnswer: what is found in a hand-in. ShowAnswer: what each answer of show means. ShowExact: each answer
+-- is given whenever it is the first that applies.
+-- ShowsModels: what show answers for a model. ShowPromise: all of this.
 -- Assumes nothing.
 use Rattle.std.specs.Prelude.{◌≡◌, ℕ, ◌<◌, ◌≤◌, Bool, true, List, length, is_ok, Some, None, Ok, Err, ◌↔◌, MatchBool, Option, Result, ◌≢◌}
 use Rattle.logic.specs.declared.records.Entry.{Entry}
@@ -41,22 +41,21 @@ FirstFalse m bk (Some i) = LowestFalse m bk i
 abbrev pub TrueIfLive : Interpretation → List ℕ → StoredEntry → Type 0
 TrueIfLive i list l = l.live ≡ true → TrueByMasks i list l.entry
 
--- the test tells whether that is not so
+-- the test tells whether the stored entry is live and false by the masks
 abbrev pub IsLiveAndFalse : Interpretation → List ℕ → StoredEntry → Bool → Type 0
 IsLiveAndFalse i list l test = MatchBool test (TrueIfLive i list l → ⊥) (TrueIfLive i list l)
 
--- Where the list has the set of each node, in a model that the interpretation means, with whatever order: the lowest
--- live entry that is false in it, if there is one.
+-- If the list has the set of each node in a model that the interpretation means, with any order: the lowest live entry
+-- that is false in the model, if there is one.
 abbrev pub FindsFirstFalse : Book → Interpretation → List ℕ → Option ℕ → Type 0
 FindsFirstFalse bk i list r = (o : Preference) (f : Compatible i o) → HasNodeSets (model_of i o f) bk list → FirstFalse (model_of i o f) bk r
 
--- nothing is wrong before the book is looked at: so many bytes as there should be, all fields good, an
--- order of the same size
+-- bytes and order mean a model: the right length, all fields good, and an order of the same size
 abbrev pub MeanModel : List ℕ → Preference → Type 0
 MeanModel bs o = HasModelLength bs × Compatible (interpretation_of bs) o
 
--- Each refusal: that no earlier one fits, its reason, its number and place, and what the list holds. Numbers and places
--- are written out, so that a wrong one in the definitions beside the fault is refused at the call.
+-- Of each refusal: that no earlier one applies, its reason, its number and place, and what the list holds. Numbers and
+-- places are written out: if their definitions are wrong, the call does not prove.
 abbrev pub ShowRefused : Book → List ℕ → Preference → List ℕ → ShowFault → Type 0
 ShowRefused bk bs o list (View f) = ViewRefused bs f × Zeros list
 ShowRefused bk bs o list (OrderSize n) =
@@ -69,8 +68,9 @@ ShowRefused bk bs o list (EntryFails i) =
     MeanModel bs o × (length bk.nodes ≤ length list) × (show_fault_number (EntryFails i) ≡ 18)
     × ((f : Compatible (interpretation_of bs) o) → LowestFalse (model_of (interpretation_of bs) o f) bk (show_fault_place (EntryFails i)) × HasNodeSets (model_of (interpretation_of bs) o f) bk list)
 
--- The view holds what the bytes say, the entry is the lowest live one that is false, if there is one, and the
--- list has the sets of the model. Or the answer is the first refusal that fits; a false entry is none here.
+-- The view holds the interpretation in the bytes, the entry is the lowest live one that is false, if there is
+-- one, and the list has the sets of the model. Or the answer is the first refusal that applies; a false entry is
+-- no refusal here.
 abbrev pub ExamineAnswer : Book → List ℕ → Preference → List ℕ → Result Examined ShowFault → Type 0
 ExamineAnswer bk bs o list (Ok e) =
     MeanModel bs o × (length bk.nodes ≤ length list) × (view_meaning e.view ≡ interpretation_of bs)
@@ -81,15 +81,15 @@ ExamineAnswer bk bs o list (Err (OrderSize n)) = ShowRefused bk bs o list (Order
 ExamineAnswer bk bs o list (Err (Fill f)) = ShowRefused bk bs o list (Fill f)
 ExamineAnswer bk bs o list (Err (EntryFails i)) = ⊥
 
--- Accepted: the number of elements; the model is a model of the live entries, and the list has its sets.
--- The list is as it is left, and keeps its length. The model does not depend on the evidence f.
+-- Accepted: the number of elements; the model satisfies the live entries, and the list has its sets. The
+-- list is that after the call, of the same length as before. The model does not depend on the evidence f.
 abbrev pub ShowAnswer : Book → List ℕ → Preference → List ℕ → Result ℕ ShowFault → Type 0
 ShowAnswer bk bs o list (Ok n) =
     MeanModel bs o × (length bk.nodes ≤ length list) × (n ≡ (interpretation_of bs).size)
     × ((f : Compatible (interpretation_of bs) o) → Satisfies (model_of (interpretation_of bs) o f) bk × HasNodeSets (model_of (interpretation_of bs) o f) bk list)
 ShowAnswer bk bs o list (Err e) = ShowRefused bk bs o list e
 
--- Each answer is given wherever it is the first that fits; len is the length of the list.
+-- Each answer is given whenever it is the first that applies; len is the length of the list.
 pub record ShowExact (bk : Book) (bs : List ℕ) (o : Preference) (len : ℕ) (r : Result ℕ ShowFault) : Type 0 where
   pub bad_length : (HasModelLength bs → ⊥) → r ≡ Err (View (BadLength (length bs)))
   pub bad_field : (k : ℕ) → HasModelLength bs → LowestBad (interpretation_of bs) k → r ≡ Err (View (BadField k))
@@ -98,14 +98,14 @@ pub record ShowExact (bk : Book) (bs : List ℕ) (o : Preference) (len : ℕ) (r
   pub entry_fails : (i : ℕ) → HasModelLength bs → (f : Compatible (interpretation_of bs) o) → length bk.nodes ≤ len → LowestFalse (model_of (interpretation_of bs) o f) bk i → r ≡ Err (EntryFails i)
   pub accepted : HasModelLength bs → (f : Compatible (interpretation_of bs) o) → length bk.nodes ≤ len → Satisfies (model_of (interpretation_of bs) o f) bk → r ≡ Ok (interpretation_of bs).size
 
--- Where the bytes and the order mean a model and the list has a place for each node, the hand-in is
--- accepted exactly when that model is a model of the live entries.
+-- If the bytes and the order mean a model and the list has a place for each node, the hand-in is accepted
+-- exactly when that model satisfies the live entries.
 abbrev pub ShowsModels : Book → List ℕ → Preference → ℕ → Result ℕ ShowFault → Type 0
 ShowsModels bk bs o len r =
     (m : Model) → HasModelLength bs → (f : Compatible (interpretation_of bs) o) → Alike m (model_of (interpretation_of bs) o f) → length bk.nodes ≤ len →
     (is_ok r ≡ true) ↔ Satisfies m bk
 
--- What show promises, where the list has the length len and is left as list.
+-- What show promises; len is the length of the list, and list is what it holds afterwards.
 pub record ShowPromise (bk : Book) (bs : List ℕ) (o : Preference) (len : ℕ) (list : List ℕ) (r : Result ℕ ShowFault) : Type 0 where
   pub answer : ShowAnswer bk bs o list r
   pub exact : ShowExact bk bs o len r

@@ -1,5 +1,5 @@
--- What a step does to a branch, computed. It serves the contracts of private functions: that it agrees
--- with the rules of the calculus is proved, and no public promise cites it.
+-- What a step does to a branch, computed. Only contracts of private functions use it: it is proved to agree
+-- with the rules of the calculus, and no public promise cites it.
 -- operand_records: what operand b names. entry_effect, constraint_effect: the effect of an op on an entry and on a
 -- constraint. step_effect: that of a step.
 -- Assumes nothing.
@@ -28,15 +28,15 @@ use Rattle.judge.specs.declared.step_fault.StepFault.TheVariants.{Malformed, Nev
 use Rattle.judge.specs.Blanks.{no_constraint, no_edge}
 use Rattle.judge.specs.Ops.{op_of, operand_of, names_entry, unused_not_zero, has_operand}
 
--- an effect along an edge that leads from x by role r
+-- the effect, if the edge leads from x by role r
 abbrev pub along : Edge → ℕ → ℕ → Effect → Option Effect
 along e x r f = if e.from == x && e.role == r then Some f else None
 
--- two constraints on one node at one label
+-- the constraint is on this node at this label
 abbrev pub is_on : Constraint → ℕ → ℕ → Bool
 is_on c x n = c.label == x && c.node == n
 
--- forms that deny each other
+-- forms that contradict each other
 abbrev pub denies : Form → Form → Bool
 denies Holds Fails = true
 denies Bars Admits = true
@@ -70,18 +70,18 @@ operand_records operand.Edge br b = (slice_index_or br.edges b no_edge, no_const
 operand_records operand.Constraint br b = (no_edge, slice_index_or br.constraints b no_constraint)
 operand_records _ br b = (no_edge, no_constraint)
 
--- an op on constraint c, which is on node m, and the edge and the constraint that the step names
+-- the effect of an op on constraint c, which is on node m, with the edge and the constraint that the step names
 abbrev pub constraint_effect : Op → Constraint → Node → Edge → Constraint → Option Effect
 constraint_effect o c m e d = rule_effect o c.form m c.label c.node e d
 
--- an op on an entry, at label x
+-- the effect of an op on an entry, at label x
 abbrev pub entry_effect : Entry → Op → ℕ → Option Effect
 entry_effect (entry.Inclusion c d) op.Include x = Some (Splits (constraint x Fails c) (constraint x Holds d))
 entry_effect (entry.Fact a c) op.Assert x = Some (Adds (constraint a Holds c))
 entry_effect (entry.RoleFact r a b) op.Assert x = Some (Links (edge a r b))
 entry_effect _ _ x = None
 
--- ops 1 and 2
+-- the effect of ops 1 and 2
 unfoldable pub by_entry : Book → Branch → Op → Step → Result Effect StepFault
 by_entry bk br o s =
     let stored : StoredEntry = stored_at bk s.a in
@@ -89,7 +89,7 @@ by_entry bk br o s =
     if has_operand (operand_of o) br s.b then (if stored.live then ok_or (entry_effect stored.entry o s.b) Misfit else Err Struck) else
     Err NotThere
 
--- the other ops
+-- the effect of the other ops
 unfoldable pub by_constraint : Book → Branch → Op → Step → Result Effect StepFault
 by_constraint bk br o s =
     let c : Constraint = slice_index_or br.constraints s.a no_constraint in

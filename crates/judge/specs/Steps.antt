@@ -1,5 +1,5 @@
 -- Steps in bytes: five for each, the op and then the operands a and b, low byte first.
--- step_at, decoded: the steps that bytes are. WholeSteps: bytes of whole steps, and not too many.
+-- step_at, decoded: the steps that bytes encode. WholeSteps: bytes of whole steps, and not too many.
 -- encoded: the bytes of steps. Bytes: numbers that are bytes.
 -- Assumes nothing.
 use Rattle.std.specs.Prelude.{◌≡◌, ℕ, zero, suc, ◌+◌, ◌*◌, ◌/◌, ◌%◌, ◌<◌, ◌≤◌, List, [], ◌∷◌, ◌++◌, length}
@@ -17,7 +17,7 @@ abbrev pub first_steps : ℕ → List ℕ → List Step
 first_steps zero bs = []
 first_steps (suc n) bs = first_steps n bs ++ step_at bs n ∷ []
 
--- the steps that the bytes are
+-- the steps that the bytes encode
 abbrev pub decoded : List ℕ → List Step
 decoded bs = first_steps (length bs / 5) bs
 

@@ -1,6 +1,6 @@
 -- The trace of a tableau: the steps that are taken, and what each does.
--- Does: the effect of a step, by the rules of the calculus. pending_after: how many splits are then
--- pending. Trace: the trace of steps. ToldTrace: a watcher was told it. steps_taken: how many steps are
+-- Does: the effect of a step, by the rules of the calculus. pending_after: how many splits are pending
+-- afterwards. Trace: the trace of steps. ToldTrace: a watcher was told it. steps_taken: how many steps are
 -- taken. Watched: what is promised of a watcher.
 -- Assumes nothing.
 use Rattle.std.specs.Prelude.{ℕ, suc, ◌-◌, List, [], ◌∷◌, ◌++◌, length, take, Ok, Err, Result}
@@ -18,7 +18,7 @@ use Rattle.judge.specs.declared.used.Used.{Used}
 use Rattle.judge.specs.declared.watch.TakenStep.{TakenStep}
 use Rattle.judge.specs.Progress.{Underway}
 
--- By a rule of the calculus, the step makes of the branch what the effect says; br.next is the new label.
+-- By a rule of the calculus, the step does to the branch what the effect says; br.next is the new label.
 abbrev pub Does : Book → Branch → Step → Effect → Type 0
 Does bk br s (Adds c) = rule.Extends bk br s (with br (c ∷ []) [])
 Does bk br s (AddsTwo c d) = rule.Extends bk br s (with br (c ∷ d ∷ []) [])
@@ -31,14 +31,14 @@ Does bk br s (GrowsTwo x r f g n) =
 Does bk br s (Splits c d) = rule.Splits bk br s (with br (c ∷ []) []) (with br (d ∷ []) [])
 Does bk br s Closes = rule.Closes bk br s
 
--- A split adds one. Closing a branch takes the latest away, if there is one: its second branch is worked next.
+-- A split adds one. Closing a branch removes the latest, if there is one: its second branch comes next.
 abbrev pub pending_after : Effect → ℕ → ℕ
 pending_after (Splits c d) n = suc n
 pending_after Closes n = n - 1
 pending_after _ n = n
 
--- The steps are taken one after the other. For each the trace has its effect on the branch that is worked,
--- and the number of splits that are pending after it.
+-- The steps are taken one after the other. For each the trace has its effect on the current branch, and the
+-- number of splits that are pending after it.
 pub data Trace (bk : Book) (ls : Lengths) : List Step → List TakenStep → Type 0 where
   none : Trace bk ls [] []
   one_more : {ss : List Step} {ts : List TakenStep} {br : Branch} {ps : List Branch} (s : Step) (e : Effect) →
@@ -46,7 +46,7 @@ pub data Trace (bk : Book) (ls : Lengths) : List Step → List TakenStep → Typ
       Trace bk ls (ss ++ s ∷ [])
       (ts ++ record { step = s; effect = e; pending = pending_after e (length ps) } ∷ [])
 
--- all steps are taken, or those before the refused one, or none where the length of the bytes is refused
+-- all steps are taken, or those before the refused one, or none if the length of the bytes is refused
 abbrev pub steps_taken : List Step → Result Used RefuteFault → ℕ
 steps_taken ss (Ok u) = length ss
 steps_taken ss (Err (BadLength n)) = 0
@@ -54,8 +54,8 @@ steps_taken ss (Err (AtStep i f)) = i
 steps_taken ss (Err (AfterClosing i)) = i
 steps_taken ss (Err (NotClosed n)) = length ss
 
--- A watcher was told the trace of the steps, in order, and nothing else. `told` says what it is once it was
--- told of one step.
+-- A watcher was told the trace of the steps, in order, and nothing else. `told` says what it
+-- becomes when it is told one step.
 abbrev pub ToldTrace : {W : Type 0} → (W → TakenStep → W → Type 0) →
     Book → Lengths → List Step → W → W → Type 0
 ToldTrace told bk ls ss before after =

@@ -1,8 +1,7 @@
--- A branch with its pending splits in the working lists. It serves the contracts of private functions.
--- Counted: a branch by its counts. labelled: one label more. PendingSplit: a split as the calculus has it.
--- Represents: what lists show. WorkState: what is worked. HoldsState, HoldsSomeState, SixteenBitCounts: what the
--- working lists hold. state_after: where the work goes after an effect. ReachesState, TransformsState: what code
--- makes of it.
+-- A branch with its pending splits in the working lists. Only contracts of private functions use it.
+-- Counted: a branch by its counts. labelled: one more label. PendingSplit: a split as the calculus has it.
+-- Represents: what lists hold. WorkState: the state of the checker. HoldsState, HoldsSomeState, SixteenBitCounts: what
+-- the working lists hold. state_after: the state after an effect. ReachesState, TransformsState: the code reaches it.
 -- Assumes nothing.
 use Rattle.std.specs.Prelude.{◌≡◌, ℕ, ◌+◌, ◌<◌, ◌≤◌, nat_lt, if◌then◌else◌, List, [], ◌∷◌, map, reverse, length, take, Some, None, Ok, Err, Option, Result}
 use Rattle.logic.specs.declared.tableau.Constraint.{Constraint}
@@ -26,7 +25,7 @@ pub record Counted (at : Counts) (br : Branch) : Type 0 where
   pub edges : length br.edges ≡ at.edges
   pub labels : br.next ≡ at.labels
 
--- a new label and the counts with it, if it is none above 255
+-- a new label and the counts with it, if the label is not above 255
 abbrev pub labelled : Counts → Result (ℕ × Counts) StepFault
 labelled at =
     if nat_lt at.labels 256
@@ -46,7 +45,7 @@ second_branch p = with p.before (p.second ∷ []) []
 abbrev pub split_record : PendingSplit → Split
 split_record p = record { constraints = length p.before.constraints; edges = length p.before.edges; labels = p.before.next; second = p.second }
 
--- the branch of each pending split is a front of the branch after it
+-- the branch of each pending split is a prefix of the branch after it
 abbrev pub Prefixes : List PendingSplit → Branch → Type 0
 Prefixes [] br = Unit {0}
 Prefixes (p ∷ ps) br =
@@ -57,7 +56,7 @@ Prefixes (p ∷ ps) br =
     × (p.before.next ≤ br.next)
     × Prefixes ps p.before
 
--- the lists show the branch and the pending splits, the latest split last
+-- the lists hold the branch and the pending splits, the latest split last
 pub record Represents (br : Branch) (ps : List PendingSplit) (at : Counts) (cs : List Constraint) (es : List Edge) (ss : List Split) : Type 0 where
   pub constraints : Listed no_constraint cs at.constraints br.constraints
   pub edges : Listed no_edge es at.edges br.edges
@@ -66,7 +65,7 @@ pub record Represents (br : Branch) (ps : List PendingSplit) (at : Counts) (cs :
   pub few : at.labels ≤ 256
   pub prefixes : Prefixes ps br
 
--- the branch that is worked, and the pending splits, the latest first
+-- the current branch, and the pending splits, the latest first
 pub record WorkState : Type 0 where
   pub branch : Branch
   pub pending : List PendingSplit
@@ -92,7 +91,7 @@ abbrev pub resumed_state : List PendingSplit → Option WorkState
 resumed_state [] = None
 resumed_state (p ∷ ps) = Some (work_state (second_branch p) ps)
 
--- where the work goes after an effect
+-- the state after an effect; None if the last branch is closed
 abbrev pub state_after : Effect → Branch → List PendingSplit → Option WorkState
 state_after (Adds c) br ps = Some (work_state (with br (c ∷ []) []) ps)
 state_after (AddsTwo c d) br ps = Some (work_state (with br (c ∷ d ∷ []) []) ps)
@@ -106,7 +105,7 @@ state_after Closes br ps = resumed_state ps
 abbrev pub Overfull : Lengths → WorkState → StepFault → Type 0
 Overfull ls σ f = (f ≡ Full) × (Room ls (length σ.pending) σ.branch → ⊥)
 
--- code goes where the effect goes: the lists show it, or there is no room for it
+-- the code reaches the given state: the lists hold it, or there is no room for it
 abbrev pub ReachesState : Lengths → (Counts → WorkState → Type 0) → Option WorkState → Result (Option Counts) StepFault → Type 0
 ReachesState ls InLists None (Ok None) = Unit {0}
 ReachesState ls InLists None (Ok (Some at)) = ⊥
@@ -115,6 +114,6 @@ ReachesState ls InLists (Some σ) (Ok None) = ⊥
 ReachesState ls InLists (Some σ) (Ok (Some at)) = InLists at σ
 ReachesState ls InLists (Some σ) (Err f) = Overfull ls σ f
 
--- work on lists that hold a state, at these counts: they hold then where it goes, or have no room for it
+-- from lists that hold a state, at these counts, the code reaches the state after it, or there is no room for it
 abbrev pub TransformsState : Lists → Counts → Lists → (Branch → List PendingSplit → Option WorkState) → Result (Option Counts) StepFault → Type 0
 TransformsState before at now to r = (σ : WorkState) → HoldsState before at σ → ReachesState (lengths_of before) (HoldsState now) (to σ.branch σ.pending) r

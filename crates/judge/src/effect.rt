@@ -1,4 +1,4 @@
-// What a step does to the branch that is worked, and how it is done in the working lists.
+// What a step does to the current branch, and how it is done in the working lists.
 ghost use Rattle.std.specs.Prelude.{Some};
 ghost use Rattle.logic.specs.Branches.{with};
 ghost use Rattle.judge.specs.declared.effect.Effect.TheVariants.{Splits};
@@ -12,11 +12,11 @@ use logic::tableau::{Constraint, Edge, Form};
 
 #[derive(Clone, Copy)]
 pub enum Effect {
-    // one constraint more
+    // one more constraint
     Adds(Constraint),
-    // two constraints more
+    // two more constraints
     AddsTwo(Constraint, Constraint),
-    // one edge more
+    // one more edge
     Links(Edge),
     // a new label, an edge to it by a role, and a constraint at it
     Grows {
@@ -33,14 +33,14 @@ pub enum Effect {
         second: Form,
         node: u16,
     },
-    // two branches, each with one constraint more; the first is worked first
+    // two branches, each with one more constraint; the first comes first
     Splits(Constraint, Constraint),
-    // the branch contradicts itself
+    // the branch is contradictory
     Closes,
 }
 
 impl Lists<'_> {
-    // More constraints and edges.
+    // Appends constraints and edges.
     fn extend(
         &mut self,
         at: Counts,
@@ -60,7 +60,7 @@ impl Lists<'_> {
         }))
     }
 
-    // The first alternative of a split goes on the branch, and the second is pending.
+    // Puts the first alternative of a split on the branch, and keeps the second as pending.
     fn split(
         &mut self,
         at: Counts,
@@ -87,7 +87,7 @@ impl Lists<'_> {
         }))
     }
 
-    // The branch is closed: resumes the latest pending split, if there is one, with its second alternative.
+    // Closes the branch: resumes the latest pending split, if there is one, with its second alternative.
     fn close(&mut self, at: Counts) -> Result<Option<Counts>, StepFault>
         requires { HoldsSomeState self.old at }
         ensures same { SameLists self.old self.new }
@@ -112,7 +112,7 @@ impl Lists<'_> {
         }))
     }
 
-    // What an effect does.
+    // Does the effect.
     #[inline(always)]
     pub(crate) fn apply(&mut self, effect: Effect, at: Counts) -> Result<Option<Counts>, StepFault>
         requires state { HoldsSomeState self.old at }

@@ -7,7 +7,7 @@ use thiserror::Error;
 
 #[derive(Clone, Copy, Debug, PartialEq, Eq, Error)]
 pub enum RefuteFault {
-    // with the length of the bytes: it is not that of whole steps, or there are too many
+    // with the length of the bytes: not a multiple of a step's length, or too long
     #[error("wrong length {0}")]
     BadLength(usize),
     // with the number of the step, and why the open branch refuses it

@@ -10,7 +10,7 @@ use models::sets::extension;
 use models::view::View;
 use orders::order::Order;
 
-// A set is blank when it has no element.
+// The blank of a set is the empty set.
 impl Blank for u32 {
     ghost zeroed = { 0 };
 
@@ -19,9 +19,9 @@ impl Blank for u32 {
     }
 }
 
-// Fills the list with the mask of each node, in the order of the nodes, and with zeros behind. Where it has
-// not a place for each node, it gets only zeros. The masks are the sets of a model only where the order has
-// the view's size, which `examine` checks.
+// Fills the list with the mask of each node, in the order of the nodes, and then zeros. If it has no place
+// for some node, it gets only zeros. The masks are the sets of a model only if the order has the view's size,
+// which `examine` checks.
 pub(crate) fn fill<B: ReadableBook, O: Order>(
     book: &B,
     view: &View,

@@ -1,5 +1,5 @@
-// Judges hand-ins against a rule book: `show` judges models, `refute` tableaux. Books and orders come in by
-// their traits alone.
+// Judges hand-ins against a rule book: `show` judges models, `refute` tableaux. Books and orders are given
+// by their traits.
 #![tactic(auto)]
 
 pub mod effect;

@@ -29,7 +29,7 @@ pub(crate) fn record_at<T: Blank>(list: &[T], len: usize, i: usize) -> T
     }
 }
 
-// Puts records behind the first `len`, if there is room for all of them.
+// Appends records after the first `len`, if there is room for all of them.
 pub(crate) fn append<T: Blank>(list: &mut [T], len: usize, records: &[T]) -> Result<(), ListFull>
     ensures room { is_ok result ≡ nat_le (len + length records.now) (length list.old) }
     ensures list { list.new ≡ (
@@ -46,13 +46,13 @@ pub(crate) fn append<T: Blank>(list: &mut [T], len: usize, records: &[T]) -> Res
     Ok(())
 }
 
-// Blanks the records from `to` up to `len`, so that `to` are left in use.
+// Blanks the records from `to` up to `len`, so that `to` records stay in use.
 pub(crate) fn cut_back<T: Blank>(list: &mut [T], to: usize, len: usize)
     ensures { Blanked T.zeroed to len list.old list.new }
 {
     let end = len.min(list.len());
     if to < end {
-        // a call of `clear` would take longer than one record does
+        // for one record a call of `clear` would take longer
         if end - to == 1 {
             list[to] = T::blank();
         } else {

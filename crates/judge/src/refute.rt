@@ -1,4 +1,4 @@
-// A tableau is worked, and refutes its book or is refused.
+// Checks a tableau step by step: it refutes its book or is refused.
 ghost use Rattle.std.specs.Prelude.{◌≤◌, length, IfErr};
 ghost use Rattle.judge.specs.Blanks.{lengths, lengths_of, AllBlank, SameLists};
 ghost use Rattle.judge.specs.Faults.{HasNumberAndPlace};
@@ -53,10 +53,10 @@ fn work<B: ReadableBook, W: Watch>(
     }
 }
 
-// Works a tableau over the book, in three lent lists, and tells `watch` each step that is taken. The bytes are
+// Checks a tableau over the book, in three lent lists, and tells `watch` each step that is taken. The bytes are
 // accepted exactly when they are the writing of a closed tableau over the book, within the limits, that fits
-// the lists. Then the answer is the set of the entries that it names, and no finite preferential model
-// makes them true. Otherwise the answer is the first refusal that has a reason, with its number and its place.
+// the lists. Then the answer is the set of the entries that it names, and no finite preferential model makes
+// them all true. Otherwise the answer is the first refusal that applies, with its number and its place.
 // Whatever the lists held, they are blank afterwards.
 pub fn refute_watched<B: ReadableBook, W: Watch>(
     book: &B,

@@ -20,7 +20,7 @@ use logic::tableau::{Constraint, Edge, Form};
 // The role of edges to better elements.
 const BETTER: u8 = 16;
 
-// What is said of a node, at a label.
+// The constraint on a node, at a label.
 fn at(label: u8, form: Form, node: u16) -> Constraint
     ensures { result ≡ constraint label form node }
 {
@@ -34,7 +34,7 @@ fn leads(from: u8, role: u8, to: u8) -> Edge
     Edge { from, role, to }
 }
 
-// A new label along a role, and what is said of it.
+// A new label along a role, with a constraint.
 fn grows(from: u8, role: u8, form: Form, node: u16) -> Effect
     ensures { result ≡ Grows from role form node }
 {
@@ -46,7 +46,7 @@ fn grows(from: u8, role: u8, form: Form, node: u16) -> Effect
     }
 }
 
-// A new label along a role, and two things that are said of it.
+// A new label along a role, with two constraints on one node.
 fn grows_two(from: u8, role: u8, first: Form, second: Form, node: u16) -> Effect
     ensures { result ≡ GrowsTwo from role first second node }
 {
@@ -59,7 +59,7 @@ fn grows_two(from: u8, role: u8, first: Form, second: Form, node: u16) -> Effect
     }
 }
 
-// An op on an entry, at label x.
+// The effect of an op on an entry, at label x.
 pub(crate) fn entry_effect(op: Op, entry: Entry, x: u16) -> Option<Effect>
     requires label { op ≡ Include → x < 256 }
     requires limits { entry_within_limits entry ≡ true }
@@ -74,7 +74,7 @@ pub(crate) fn entry_effect(op: Op, entry: Entry, x: u16) -> Option<Effect>
     Some(effect)
 }
 
-// An op on a constraint, which is on `node`. `edge` and `other` are what else the step may name.
+// The effect of an op on a constraint, which is on `node`. `edge` and `other` are what operand b may name.
 #[inline(always)]
 pub(crate) fn constraint_effect(
     op: Op,

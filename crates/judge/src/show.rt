@@ -21,8 +21,8 @@ fn is_live_and_false(view: &View, list: &[u32], stored: StoredEntry) -> bool
     stored.live && !is_true(view, list, stored.entry)
 }
 
-// The lowest live entry that is false by the masks of the list, whatever they are. Where the list has the
-// set of each node, it is the lowest that is false in the model that the view means, with any order.
+// The lowest live entry that is false by the masks of the list, whatever they are. If the list has the set
+// of each node, it is the lowest that is false in the model that the view means, with any order.
 fn first_false<B: ReadableBook>(book: &B, view: &View, list: &[u32]) -> Option<u16>
     ensures lowest { FirstWithout
         (λ k. TrueIfLive (view_meaning view.now) list.now (stored_at (B.meaning book.now) k))
@@ -42,9 +42,9 @@ pub struct Examined {
 }
 
 // Reads the interpretation in the bytes, and finds the lowest live entry of the book that is false in it, with
-// the order as its "better". A false entry is no refusal here, so the answer is never `EntryFails`. `list` may
-// hold anything, and should have a place for each node. It then holds the set of each node and zeros behind;
-// only zeros, where the answer is a refusal.
+// the order as its "better". A false entry is not a refusal here, so the answer is never `EntryFails`. `list`
+// may hold anything, and should have a place for each node. Afterwards it holds the set of each node and then
+// zeros, or only zeros if the answer is a refusal.
 pub fn examine<B: ReadableBook, O: Order>(
     book: &B,
     bytes: &[u8],
@@ -68,8 +68,8 @@ pub fn examine<B: ReadableBook, O: Order>(
 
 // Whether the interpretation in the bytes, with the order as its "better", satisfies the live entries of
 // the book: the number of its elements, or why not. The list may hold anything, and should have a place
-// for each node. Where the answer is a number or an entry that fails, it then holds the set of each node
-// and zeros behind; otherwise only zeros.
+// for each node. Afterwards it holds the set of each node and then zeros, if the answer is a number or an
+// entry that fails; otherwise only zeros.
 pub fn show<B: ReadableBook, O: Order>(
     book: &B,
     bytes: &[u8],

@@ -1,5 +1,4 @@
-// Why a hand-in is not shown to be a model: the fault of a lower call whole, or a case with the place that
-// is reported with it.
+// Why a hand-in is not shown to be a model: the whole fault of a lower call, or a case with its place.
 ghost use Rattle.std.specs.Prelude.{◌≡◌};
 ghost use Rattle.judge.specs.ShowFaults.{show_fault_number, show_fault_place};
 ghost use Rattle.judge.specs.declared.show_faults.ShowFault.TheVariants.{View, Fill};
@@ -8,7 +7,7 @@ use logic::refusal::{BadLength, Refusal, Report};
 use models::faults::ViewFault;
 use thiserror::Error;
 
-// A list that has not a place for each node: 17, with its length.
+// The list has no place for some node: 17, with its length.
 pub type FillFault = BadLength<17>;
 
 #[derive(Clone, Copy, Debug, PartialEq, Eq, Error)]
@@ -41,7 +40,7 @@ impl Refusal for ShowFault {
     }
 }
 
-// One impl for each: derived ones have no `from_gives`, by which a clause reads what a `?` makes.
+// One impl for each lower fault, by hand: derived ones lack `from_gives`, which tells a clause what `?` converts to.
 impl From<ViewFault> for ShowFault {
     ghost from_gives = { λ f g. g ≡ View f };
 

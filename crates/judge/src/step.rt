@@ -17,8 +17,7 @@ use books::book::ReadableBook;
 use logic::limits::LABELS;
 use logic::tableau::{Constraint, Edge, Step};
 
-// A step that was taken: its effect, and how much of the lists is in use then; nothing, where the last
-// branch is closed.
+// A step that was taken: its effect, and the counts afterwards; none if the last branch is closed.
 #[derive(Clone, Copy)]
 pub(crate) struct Taken {
     pub(crate) effect: Effect,
@@ -26,7 +25,7 @@ pub(crate) struct Taken {
 }
 
 impl Taken {
-    // How many splits are pending then.
+    // How many splits are pending afterwards.
     pub(crate) fn pending(self) -> usize
         ensures { MatchOption self.at (result ≡ 0) (λ at. result ≡ at.splits) }
     {
@@ -49,7 +48,7 @@ fn has_operand(operand: Operand, b: u16, at: Counts) -> bool
     }
 }
 
-// An op that names an entry.
+// The effect of an op that names an entry.
 fn by_entry<B: ReadableBook>(book: &B, op: Op, step: Step, at: Counts) -> Result<Effect, StepFault>
     requires { at.labels ≤ LABELS }
     ensures { (br : Branch) → Counted at br → result ≡ by_entry (B.meaning book.now) br op step }
@@ -83,7 +82,7 @@ fn operand_records(operand: Operand, b: u16, lists: &Lists, at: Counts) -> (Edge
     }
 }
 
-// An op that names a constraint.
+// The effect of an op that names a constraint.
 fn by_constraint<B: ReadableBook>(
     book: &B,
     op: Op,
@@ -124,7 +123,7 @@ fn decide<B: ReadableBook>(
     }
 }
 
-// One step on an open branch.
+// Takes one step on an open branch.
 pub(crate) fn take<B: ReadableBook>(
     book: &B,
     step: Step,

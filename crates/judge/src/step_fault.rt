@@ -18,7 +18,7 @@ pub enum StepFault {
     Struck,
     #[error("no rule permits the step")]
     Misfit,
-    // a list would overflow, or a label is above 255
+    // a list would overflow, or a label would be above 255
     #[error("no room in a working list, or no label left")]
     Full,
 }

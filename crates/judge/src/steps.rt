@@ -6,10 +6,10 @@ use logic::bytes::u16_at;
 use logic::limits::STEPS;
 use logic::tableau::Step;
 
-// The bytes of a step.
+// The length of a step, in bytes.
 pub(crate) const STEP: usize = 5;
 
-// The bytes of a tableau with as many steps as it may have.
+// The length of the longest tableau, in bytes.
 pub(crate) const LONGEST: usize = STEPS * STEP;
 
 // The step in five bytes.

@@ -16,14 +16,14 @@ pub struct Used {
 }
 
 impl Used {
-    // The set of no entries.
+    // The empty set.
     pub fn new() -> Used
         ensures { (i : ℕ) → member result i ≡ false }
     {
         Used::unmarked()
     }
 
-    // The same, by its marks.
+    // The same; the contract speaks of the marks.
     pub(crate) fn unmarked() -> Used
         ensures { result.marks ≡ replicate 256 false }
     {

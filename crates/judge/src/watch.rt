@@ -1,4 +1,4 @@
-// Watching a tableau while it is worked.
+// Watching a tableau while it is checked.
 use crate::effect::Effect;
 use logic::tableau::Step;
 
@@ -6,18 +6,18 @@ use logic::tableau::Step;
 #[derive(Clone, Copy)]
 pub struct TakenStep {
     pub step: Step,
-    // what it did to the branch that was worked
+    // what it did to the current branch
     pub effect: Effect,
     // how many splits are pending after it
     pub pending: usize,
 }
 
-// Whoever is told each step that is taken. A trait, since a closure would bring a `requires` on the
+// A watcher: it is told each step that is taken. A trait, since a closure would need a `requires` on the
 // public call that takes it.
 pub trait Watch {
     ghost use Rattle.judge.specs.declared.watch.TakenStep.{TakenStep};
 
-    // what a watcher is once it was told of a step, from what it was before
+    // what a watcher becomes when it is told a step: before, step, after
     ghost told: { Self → TakenStep → Self → Type 0 };
 
     fn taken(&mut self, taken: TakenStep)

@@ -8,8 +8,8 @@ use crate::step_fault::StepFault;
 use logic::limits::{INDIVIDUALS, LABELS};
 use logic::tableau::{Constraint, Edge, Form};
 
-// A pending split: the counts to restore, and the alternative that is still to be worked. The counts of as many
-// steps as there may be have 16 bits; a list of small records is blanked faster.
+// A pending split: the counts to restore, and the alternative that is still to be closed. 16 bits hold every count
+// within the step limit; a list of small records is blanked faster.
 #[derive(Clone, Copy)]
 pub struct Split {
     pub constraints: u16,
@@ -18,7 +18,7 @@ pub struct Split {
     pub second: Constraint,
 }
 
-// The three lists, as they are lent. Each method promises that they stay the slices that were lent (SameLists).
+// The three lent lists. Each method promises that they stay the slices that were lent (SameLists).
 #[derive(Drop)]
 pub(crate) struct Lists<'a> {
     pub(crate) constraints: &'a mut [Constraint],
@@ -37,7 +37,7 @@ pub(crate) struct Counts {
 }
 
 impl Counts {
-    // Nothing but the individuals.
+    // The counts at the start: the individuals alone.
     pub(crate) fn start() -> Counts
         ensures { result ≡ record { constraints = 0; edges = 0; splits = 0; labels = 32 } }
     {
@@ -49,7 +49,7 @@ impl Counts {
         }
     }
 
-    // A new label, and the counts with it, if there may be one.
+    // A new label, and the counts with it, if a label is left.
     pub(crate) fn with_label(self) -> Result<(u8, Counts), StepFault>
         ensures { result ≡ labelled self }
     {

@@ -1,4 +1,4 @@
--- What a rule book holds, what stands at a place of it, and how it changes.
+-- Rule books: their nodes and entries, and how they change.
 -- Book: nodes, and entries with live marks. concept: the concept of a node.
 -- with_node, with_entry, with_strike: the book after a change.
 -- Assumes nothing.
@@ -22,7 +22,7 @@ empty = record { nodes = []; entries = [] }
 abbrev pub node_at : Book → ℕ → Node
 node_at bk i = slice_index_or bk.nodes i node.Absent
 
--- what stands past the last entry: no entry, and not live
+-- the value past the last entry: no entry, and not live
 abbrev pub no_stored_entry : StoredEntry
 no_stored_entry = record { entry = entry.Absent; live = false }
 
@@ -34,11 +34,11 @@ stored_at bk i = slice_index_or bk.entries i no_stored_entry
 abbrev pub concept : Book → ℕ → Concept
 concept bk i = of (concepts bk.nodes) i
 
--- one node more
+-- with one more node
 abbrev pub with_node : Book → Node → Book
 with_node bk n = record { nodes = bk.nodes ++ n ∷ []; entries = bk.entries }
 
--- one entry more, live
+-- with one more entry, live
 abbrev pub with_entry : Book → Entry → Book
 with_entry bk e = record { nodes = bk.nodes; entries = bk.entries ++ (record { entry = e; live = true }) ∷ [] }
 

@@ -1,4 +1,4 @@
--- How much a book and a tableau may hold, each limit once.
+-- The limits of books and tableaux.
 -- Assumes nothing.
 use Rattle.std.specs.Prelude.{ℕ}
 
@@ -6,7 +6,7 @@ use Rattle.std.specs.Prelude.{ℕ}
 abbrev pub node_limit : ℕ
 node_limit = 512
 
--- entries of a book, struck ones among them
+-- entries of a book, struck ones included
 abbrev pub entry_limit : ℕ
 entry_limit = 256
 
@@ -26,6 +26,6 @@ individual_limit = 32
 abbrev pub step_limit : ℕ
 step_limit = 8192
 
--- labels of a tableau, the individuals among them
+-- labels of a tableau, the individuals included
 abbrev pub label_limit : ℕ
 label_limit = 256

@@ -1,6 +1,6 @@
 -- The branches of a tableau.
 -- form_number: the numbers of the four forms. Branch: constraints, edges and labels. start: the
--- individuals alone. with, with_new: a branch with more on it. Says, Leads: what stands on a branch.
+-- individuals alone. with, with_new: a branch with additions. Says, Leads: what a branch contains.
 -- Assumes nothing.
 use Rattle.std.specs.Prelude.{ℕ, ◌+◌, List, [], ◌++◌}
 use Rattle.logic.specs.Bounds.{role_limit, individual_limit}
@@ -31,7 +31,7 @@ start = record { constraints = []; edges = []; next = individual_limit }
 abbrev pub constraint : ℕ → Form → ℕ → Constraint
 constraint x f n = record { label = x; form = f; node = n }
 
--- in place of a role it says that the second label is better than the first; no role has this number
+-- the role of an edge whose second label is better than its first; no role of a book has this number
 abbrev pub better_role : ℕ
 better_role = role_limit
 
@@ -39,11 +39,11 @@ better_role = role_limit
 abbrev pub edge : ℕ → ℕ → ℕ → Edge
 edge x r y = record { from = x; role = r; to = y }
 
--- the branch with these constraints and edges at the end of its own
+-- the branch with these constraints and edges appended
 abbrev pub with : Branch → List Constraint → List Edge → Branch
 with br cs es = record { constraints = br.constraints ++ cs; edges = br.edges ++ es; next = br.next }
 
--- the same, and one label more: the number that was next
+-- the same, with one more label: the number that was next
 abbrev pub with_new : Branch → List Constraint → List Edge → Branch
 with_new br cs es = record { constraints = br.constraints ++ cs; edges = br.edges ++ es; next = br.next + 1 }
 

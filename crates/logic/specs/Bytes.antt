@@ -1,5 +1,5 @@
 -- Numbers in bytes, low byte first.
--- byte: the byte at a place. u16_at, u32_at: the number from a place on.
+-- byte: the byte at an offset. u16_at, u32_at: the number from an offset on.
 -- Assumes nothing.
 use Rattle.std.specs.Prelude.{ℕ, ◌+◌, ◌*◌, List, slice_index}
 

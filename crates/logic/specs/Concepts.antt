@@ -1,4 +1,4 @@
--- The concepts of ALC with typicality, and the concept that each node of a list stands for.
+-- The concepts of ALC with typicality, and the concept of each node of a list.
 -- Concept: the syntax. concepts: the concept of each node of a list. plain: no typicality occurs.
 -- Assumes nothing.
 use Rattle.std.specs.Prelude.{ℕ, Bool, true, false, ◌&&◌, List, [], ◌∷◌, ◌++◌, map, slice_index_or}
@@ -18,7 +18,7 @@ pub data Concept : Type 0 where
 abbrev pub of : List Concept → ℕ → Concept
 of cs i = slice_index_or cs i bottom
 
--- what a node stands for, where cs are the concepts of the nodes before it
+-- the concept of a node; cs are the concepts of the nodes before it
 abbrev pub read : List Concept → Node → Concept
 read cs Top = top
 read cs Bottom = bottom
@@ -52,11 +52,11 @@ plain (all r c) = plain c
 plain (some r c) = plain c
 plain (typical c) = false
 
--- of each node of a list, whether its concept is plain
+-- for each node of a list, whether its concept is plain
 abbrev pub plain_marks : List Node → List Bool
 plain_marks ns = map plain (concepts ns)
 
--- the concept is typicality of something
+-- the concept is T(c) for some c
 abbrev pub is_typical : Concept → Bool
 is_typical top = false
 is_typical bottom = false

@@ -1,6 +1,6 @@
--- What is proved of the sample books: one has a model, the other a refutation; and of a wrong hand-in.
--- after_fact to second_side: the branches of the wrong hand-in. WrongHandIn: its steps, all of them
--- steps of the calculus but the last. SampleRefutation: the closed tableau, and how large it is.
+-- What is proved of the sample books (one has a model, the other a refutation) and of a wrong hand-in.
+-- after_fact to second_side: the branches of the wrong hand-in. WrongHandIn: rules permit all of its
+-- steps but the last. SampleRefutation: the closed tableau, and how large it is.
 -- Examples: all of this, and that both books are lawful.
 -- Assumes nothing.
 use Rattle.std.specs.Prelude.{◌≡◌, [], ◌∷◌}
@@ -14,33 +14,33 @@ use Rattle.logic.specs.Tableaux.{Closed, writing, named_count}
 use Rattle.logic.specs.Limits.{FitsLists, WithinLimits}
 use Rattle.logic.specs.Samples.{sample, unsatisfiable_sample, refutation, SampleModel}
 
--- each with what its step adds; here, that individual 0 holds T(release and yanked)
+-- The branch after step 0: individual 0 holds T(release and yanked).
 abbrev pub after_fact : Branch
 after_fact = with start (constraint 0 Holds 5 ∷ []) []
 
--- it holds release and yanked, and no better element does
+-- after step 1: it holds release and yanked, and no better element does
 abbrev pub after_typical : Branch
 after_typical = with after_fact (constraint 0 Holds 4 ∷ constraint 0 Bars 4 ∷ []) []
 
--- it holds release, and yanked
+-- after step 2: it holds release, and yanked
 abbrev pub after_and : Branch
 after_and = with after_typical (constraint 0 Holds 0 ∷ constraint 0 Holds 1 ∷ []) []
 
--- it is no typical release
+-- the first branch of step 3: it is no typical release
 abbrev pub after_inclusion : Branch
 after_inclusion = with after_and (constraint 0 Fails 3 ∷ []) []
 
--- and so it is no release
+-- the first branch of step 4: it is no release
 abbrev pub first_side : Branch
 first_side = with after_inclusion (constraint 0 Fails 0 ∷ []) []
 
--- or some better element is one
+-- the second branch of step 4: some better element is a release
 abbrev pub second_side : Branch
 second_side = with after_inclusion (constraint 0 Admits 0 ∷ []) []
 
--- Steps 1 2 0, 8 0 0, 4 1 0, 2 0 0, 9 5 0, 12 3 6, 12 2 6 over the sample book. Six are steps of the
--- calculus. The last would close the branch on which they end, where constraint 2 bars node 4 (release
--- and yanked) and constraint 6 admits node 0 (release). These are two nodes, and no rule has the step.
+-- Steps 1 2 0, 8 0 0, 4 1 0, 2 0 0, 9 5 0, 12 3 6, 12 2 6 over the sample book. Rules permit the
+-- first six. The last would close a branch on which constraint 2 bars node 4 (release and yanked) and
+-- constraint 6 admits node 0 (release). These are two different nodes, so no rule permits the step.
 pub record WrongHandIn : Type 0 where
   pub step_0 : Extends sample start (step 1 2 0) after_fact
   pub step_1 : Extends sample after_fact (step 8 0 0) after_typical
@@ -61,7 +61,7 @@ pub record SampleRefutation : Type 0 where
   pub limits : WithinLimits tableau
   pub fits : FitsLists (record { constraints = 5; edges = 0; splits = 1 }) tableau
 
--- the first book has a model, so that the theorem of soundness is not empty; the second is refuted
+-- the first book has a model, so soundness is not vacuous; the second is refuted
 pub record Examples : Type 0 where
   pub sample_lawful : Lawful sample
   pub refuted_lawful : Lawful unsatisfiable_sample

@@ -1,6 +1,6 @@
--- Which books are lawful, in two parts that do not depend on each other.
--- WellFormed: numbers within their limits, operands that are there, not too many records.
--- TypicalityInPlace: T stands where the rules of the book allow it.
+-- Which books are lawful, in two independent parts.
+-- WellFormed: numbers within their limits, operands that exist, not too many records.
+-- TypicalityInPlace: T occurs only where the syntax of ALC+T allows it.
 -- Assumes nothing.
 use Rattle.std.specs.Prelude.{◌≡◌, ℕ, ◌<◌, ◌≤◌, Bool, true, false, ◌&&◌, ◌||◌, List, length, nat_lt}
 use Rattle.logic.specs.declared.records.Node.{Node}
@@ -12,7 +12,7 @@ use Rattle.std.specs.List.{AllByRecursion}
 use Rattle.logic.specs.Bounds.{node_limit, entry_limit, name_limit, role_limit, individual_limit}
 use Rattle.logic.specs.Books.{Book, node_at}
 
--- it is a node at all
+-- it is a node, and not Absent
 abbrev pub is_node : Node → Bool
 is_node node.Top = true
 is_node node.Bottom = true
@@ -38,7 +38,7 @@ node_within_limits (node.Exists r c) = nat_lt r role_limit
 node_within_limits (node.Typical c) = true
 node_within_limits node.Absent = true
 
--- each node that it is made of is one of the first n
+-- each node operand is one of the first n nodes
 abbrev pub node_operands_below : ℕ → Node → Bool
 node_operands_below n node.Top = true
 node_operands_below n node.Bottom = true
@@ -51,7 +51,7 @@ node_operands_below n (node.Exists r c) = nat_lt c n
 node_operands_below n (node.Typical c) = nat_lt c n
 node_operands_below n node.Absent = true
 
--- Below all, some and T stands no T, at any depth; cs are the concepts of the book's nodes.
+-- The operand of all, some and T contains no T, at any depth; cs are the concepts of the book's nodes.
 abbrev pub node_typicality_allowed : List Concept → Node → Bool
 node_typicality_allowed cs node.Top = true
 node_typicality_allowed cs node.Bottom = true
@@ -64,7 +64,7 @@ node_typicality_allowed cs (node.Exists r c) = plain (of cs c)
 node_typicality_allowed cs (node.Typical c) = plain (of cs c)
 node_typicality_allowed cs node.Absent = true
 
--- it is an entry at all
+-- it is an entry, and not Absent
 abbrev pub is_entry : Entry → Bool
 is_entry (entry.Inclusion c d) = true
 is_entry (entry.Fact x c) = true
@@ -78,15 +78,15 @@ entry_within_limits (entry.Fact x c) = nat_lt x individual_limit
 entry_within_limits (entry.RoleFact r x y) = nat_lt r role_limit && (nat_lt x individual_limit && nat_lt y individual_limit)
 entry_within_limits entry.Absent = true
 
--- each node that it speaks of is one of the first n
+-- each node operand is one of the first n nodes
 abbrev pub entry_operands_below : ℕ → Entry → Bool
 entry_operands_below n (entry.Inclusion c d) = nat_lt c n && nat_lt d n
 entry_operands_below n (entry.Fact x c) = nat_lt c n
 entry_operands_below n (entry.RoleFact r x y) = true
 entry_operands_below n entry.Absent = true
 
--- On the left of an inclusion stands T of something, or no T occurs there; on the right none occurs.
--- A fact may have T anywhere.
+-- The left concept of an inclusion is T(c) or contains no T; the right one contains no T. A fact may
+-- contain T anywhere.
 abbrev pub entry_typicality_allowed : List Concept → Entry → Bool
 entry_typicality_allowed cs (entry.Inclusion c d) = (is_typical (of cs c) || plain (of cs c)) && plain (of cs d)
 entry_typicality_allowed cs (entry.Fact x c) = true

@@ -4,7 +4,7 @@ pub mod Bounds
 pub mod Bytes
 -- the numbers of each record
 pub mod Written
--- concepts, and what each node stands for
+-- concepts, and the concept of each node
 pub mod Concepts
 -- what a book holds
 pub mod Books
@@ -18,9 +18,9 @@ pub mod Lengths
 pub mod Models
 -- the models of a book
 pub mod Satisfaction
--- models that a book cannot tell apart
+-- models that no book distinguishes
 pub mod Likeness
--- what is proved of them
+-- what is proved of books and models
 pub mod Laws
 -- places of a list
 pub mod Places

@@ -1,5 +1,5 @@
--- Models that a book cannot tell apart.
--- Alike: two models agree on what a book can speak of. AlikeSatisfy: they satisfy the same books.
+-- Models that no book distinguishes.
+-- Alike: two models agree on what a book can mention. AlikeSatisfy: they satisfy the same books.
 -- Assumes nothing.
 use Rattle.std.specs.Prelude.{◌≡◌, ℕ, ◌<◌}
 use Rattle.logic.specs.Bounds.{name_limit, role_limit, individual_limit}
@@ -16,6 +16,6 @@ pub record Alike (m k : Model) : Type 0 where
   pub individual : (a : ℕ) → a < individual_limit → m.individual a ≡ k.individual a
   pub better : (y x : ℕ) → y < m.size → x < m.size → m.better y x ≡ k.better y x
 
--- what one of them satisfies, the other does
+-- alike models satisfy the same books
 abbrev pub AlikeSatisfy : Type 0
 AlikeSatisfy = (m k : Model) → Alike m k → (bk : Book) → WellFormed bk → Satisfies m bk → Satisfies k bk

@@ -1,7 +1,7 @@
 -- Finite preferential models, and which elements are in a concept.
 -- Model: a domain with a set for each concept name, a relation for each role, an element for each
 -- individual, and a strict preference among the elements. Sat: an element is in a concept.
--- Bars: no better element is in a concept. Admits: it is not so that none is.
+-- Bars: no better element is in a concept. Admits: not barred.
 -- Assumes nothing.
 use Rattle.std.specs.Prelude.{◌≡◌, ℕ, ◌<◌, ◌≤◌, Bool, true, false, ◌⊎◌}
 use Rattle.logic.specs.Bounds.{individual_limit}

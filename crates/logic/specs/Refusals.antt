@@ -1,5 +1,5 @@
--- Why a book refuses an offered node or entry, by the number of the first test that fails, and 0
--- where none does; and what it means to be granted.
+-- Why a book refuses an offered node or entry, by the number of the first test that fails, or 0 if
+-- none does; and what it means to be granted.
 -- first_unfit: the tests in their order. node_unfit, entry_unfit: the tests of an offered record.
 -- unless_full: the limit before them. node_refusal, entry_refusal: both, for a node and for an entry.
 -- NodeFits, EntryFits: when a book can take the offered record and stay lawful.
@@ -16,7 +16,7 @@ use Rattle.logic.specs.Books.{Book, with_node, with_entry}
 use Rattle.logic.specs.Lawful.{Lawful, is_node, node_within_limits, node_operands_below, node_typicality_allowed, is_entry, entry_within_limits, entry_operands_below, entry_typicality_allowed}
 
 -- the number of the first test that fails: 2 unknown kind, 3 over its limit or unused operand not 0,
--- 4 operand not there, 5 T out of place, 0 where none fails
+-- 4 no such node, 5 T out of place, 0 if none fails
 abbrev pub first_unfit : Bool → Bool → Bool → Bool → ℕ
 first_unfit known in_range there placed =
     if not known then 2 else if not in_range then 3 else if not there then 4 else if not placed then 5 else 0
@@ -41,7 +41,7 @@ abbrev pub entry_unused_zero : RawEntry → Bool
 entry_unused_zero raw =
     (raw.a == entry_a (entry_of raw)) && (raw.b == entry_b (entry_of raw) && raw.c == entry_c (entry_of raw))
 
--- the same of an entry
+-- why an entry does not fit a book with room for it
 abbrev pub entry_unfit : Book → RawEntry → ℕ
 entry_unfit bk raw =
     first_unfit (is_entry (entry_of raw)) (entry_within_limits (entry_of raw) && entry_unused_zero raw) (entry_operands_below (length bk.nodes) (entry_of raw)) (entry_typicality_allowed (concepts bk.nodes) (entry_of raw))
@@ -49,7 +49,7 @@ entry_unfit bk raw =
 abbrev pub entry_refusal : Book → RawEntry → ℕ
 entry_refusal bk raw = unless_full entry_limit (length bk.entries) (entry_unfit bk raw)
 
--- the offer writes a node with which the book is lawful
+-- the offer is the written form of a node with which the book is lawful
 abbrev pub NodeFits : Book → RawNode → Type 0
 NodeFits bk raw = (n : Node) × WritesNode raw n × Lawful (with_node bk n)
 

@@ -1,6 +1,6 @@
--- The sample book and its model, and the same book with a fact that leaves it without one.
+-- The sample book and its model, and the book with one more fact, which has no model.
 -- sample, unsatisfiable_sample: the two books. refutation: the steps of a closed tableau over the second.
--- wrong_steps: those of a hand-in over the first that is wrong. SampleModel: the model of the first.
+-- wrong_steps: the steps of a wrong hand-in over the first. SampleModel: the model of the first.
 -- Assumes nothing.
 use Rattle.std.specs.Prelude.{◌≡◌, ℕ, true, false, ◌&&◌, List, [], ◌∷◌, ◌==◌}
 use Rattle.logic.specs.declared.records.Node.TheVariants.{Name, Not, And, Typical}
@@ -26,7 +26,7 @@ sample =
       entries = live (Inclusion 3 2) ∷ live (Inclusion 5 6) ∷ live (Fact 0 5) ∷ [];
     }
 
--- the same, and individual 0 is a typical release too
+-- the same, where individual 0 is a typical release too
 abbrev pub unsatisfiable_sample : Book
 unsatisfiable_sample = with_entry sample (Fact 0 3)
 
@@ -35,7 +35,7 @@ abbrev pub refutation : List Step
 refutation =
     step 1 2 0 ∷ step 1 3 0 ∷ step 2 0 0 ∷ step 12 1 2 ∷ step 2 1 0 ∷ step 12 0 3 ∷ step 3 3 0 ∷ step 12 2 4 ∷ []
 
--- steps over the sample book, of which the last is none of the calculus
+-- steps over the sample book, the last of which no rule permits
 abbrev pub wrong_steps : List Step
 wrong_steps =
     step 1 2 0 ∷ step 8 0 0 ∷ step 4 1 0 ∷ step 2 0 0 ∷ step 9 5 0 ∷ step 12 3 6 ∷ step 12 2 6 ∷ []

@@ -1,5 +1,5 @@
 -- When a model is a model of a book.
--- Live: an entry is there and live. HoldsIn: an entry is true. Satisfies: every live entry is true.
+-- Live: an entry exists and is live. HoldsIn: an entry is true. Satisfies: every live entry is true.
 -- Assumes nothing.
 use Rattle.std.specs.Prelude.{◌≡◌, ℕ, ◌<◌, true}
 use Rattle.logic.specs.declared.records.Entry.{Entry}
@@ -7,7 +7,7 @@ use Rattle.logic.specs.declared.records.Entry.TheVariants.{Inclusion, Fact, Role
 use Rattle.logic.specs.Books.{Book, stored_at, concept}
 use Rattle.logic.specs.Models.{Model, Sat}
 
--- entry i is there and live
+-- entry i exists and is live
 abbrev pub Live : Book → ℕ → Entry → Type 0
 Live bk i e = stored_at bk i ≡ record { entry = e; live = true }
 

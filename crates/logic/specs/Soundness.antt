@@ -1,5 +1,5 @@
 -- What a closed tableau shows of its book.
--- NamedTrue: the entries that steps name are true in a model. Soundness: no model has all of them
+-- NamedTrue: the entries that steps name are true in a model. Soundness: no model makes all of them
 -- true. NamedLive: they are live. NoModel: so the book has no model.
 -- Assumes nothing.
 use Rattle.std.specs.Prelude.{◌≡◌, ℕ, true, List}
@@ -16,8 +16,8 @@ use Rattle.logic.specs.Tableaux.{Closed, writing, names}
 abbrev pub NamedTrue : Model → Book → List Step → Type 0
 NamedTrue m bk ss = (i : ℕ) → names ss i ≡ true → HoldsIn m bk (stored_at bk i).entry
 
--- Where a closed tableau stands over the starting branch of a well-formed book, no model, of any
--- size, makes all the entries true that it names.
+-- If there is a closed tableau over the starting branch of a well-formed book, no model, of any size,
+-- makes true all entries that it names.
 abbrev pub Soundness : Type 0
 Soundness = (bk : Book) → WellFormed bk → (t : Closed bk start) (m : Model) → NamedTrue m bk (writing t) → ⊥
 

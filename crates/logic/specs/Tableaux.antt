@@ -16,13 +16,13 @@ pub data Closed (bk : Book) : Branch → Type 0 where
   extend : {br br' : Branch} {s : Step} → Extends bk br s br' → Closed bk br' → Closed bk br
   split : {br left right : Branch} {s : Step} → Splits bk br s left right → Closed bk left → Closed bk right → Closed bk br
 
--- the rule's step and then its parts, first alternative first
+-- the rule's step, then the writings of its subtrees, first alternative first
 abbrev pub writing : {bk : Book} {br : Branch} → Closed bk br → List Step
 writing (close {s = s} r) = s ∷ []
 writing (extend {s = s} r t) = s ∷ writing t
 writing (split {s = s} r t u) = s ∷ (writing t ++ writing u)
 
--- some step of op 1 or 2 names entry i
+-- some step with op 1 or 2 names entry i
 abbrev pub names : List Step → ℕ → Bool
 names [] i = false
 names (s ∷ ss) i = ((s.op == 1 || s.op == 2) && s.a == i) || names ss i

@@ -50,7 +50,7 @@ node_b (node.Exists a b) = b
 node_b (node.Typical a) = 0
 node_b node.Absent = 0
 
--- the node of a kind with these operands; Absent where no node has the kind
+-- the node of a kind with these operands; Absent if no node has the kind
 abbrev pub node_of : RawNode → Node
 node_of raw =
     if raw.kind == 0 then node.Top
@@ -98,7 +98,7 @@ entry_c (entry.Fact a b) = 0
 entry_c (entry.RoleFact a b c) = c
 entry_c entry.Absent = 0
 
--- the entry of a kind with these operands; Absent where no entry has the kind
+-- the entry of a kind with these operands; Absent if no entry has the kind
 abbrev pub entry_of : RawEntry → Entry
 entry_of raw =
     if raw.kind == 1 then entry.Inclusion raw.a raw.b

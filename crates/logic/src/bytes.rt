@@ -13,7 +13,7 @@ pub fn byte_at(bytes: &[u8], at: usize) -> u8
 pub fn u16_at(bytes: &[u8], at: usize) -> u16
     ensures { result ≡ u16_at bytes.now at }
 {
-    // past the end a sum that does not fit is as good as the highest number
+    // an offset that overflows is past the end, as is the highest number
     u16::from_le_bytes([byte_at(bytes, at), byte_at(bytes, at.saturating_add(1))])
 }
 

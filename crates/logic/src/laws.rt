@@ -5,7 +5,7 @@ ghost use Rattle.logic.specs.Limits.{LongerListsFit};
 ghost use Rattle.logic.specs.Soundness.{Soundness, NamedLive, NoModel};
 ghost use Rattle.logic.specs.Examples.{Examples};
 
-// Appended nodes leave the concepts of earlier nodes as they were.
+// Appended nodes leave the concepts of earlier nodes unchanged.
 pub fn concepts_stay()
     ensures { ConceptsStay }
 {}
@@ -20,18 +20,18 @@ pub fn admitted()
     ensures { Admitted }
 {}
 
-// Among the better elements with a property, some are minimal.
+// If some better element has a property, a minimal one does.
 pub fn minimal_exists()
     ensures { MinimalExists }
 {}
 
-// Models that agree on what a book can speak of satisfy the same books.
+// Models that agree on "better" and on all that a book can mention satisfy the same books.
 pub fn alike_satisfy()
     ensures { AlikeSatisfy }
 {}
 
-// No finite preferential model makes all the entries true that a closed tableau over a well-formed
-// book names. These are live, so no model satisfies the live entries of the book.
+// No finite preferential model makes true all entries that a closed tableau over a well-formed book
+// names. These entries are live, so no model satisfies the live entries of the book.
 pub fn calculus_sound()
     ensures named { Soundness }
     ensures live { NamedLive }
@@ -43,8 +43,8 @@ pub fn longer_lists_fit()
     ensures { LongerListsFit }
 {}
 
-// The sample book has a model; with one fact more it has a closed tableau; and a wrong hand-in over
-// the sample book stops at its last step.
+// The sample book has a model; with one more fact it has a closed tableau; and of a wrong hand-in over
+// the sample book, no rule permits the last step.
 pub fn examples_hold()
     ensures { Examples }
 {}

@@ -1,9 +1,9 @@
-// How much a book and a tableau may hold.
+// The limits of books and tableaux.
 
 // Nodes in a book.
 pub const NODES: u16 = 512;
 
-// Entries in a book, struck ones among them.
+// Entries in a book, struck ones included.
 pub const ENTRIES: u16 = 256;
 
 // Concept names: they are numbered from 0 to 63.

@@ -13,7 +13,7 @@ pub enum Node {
     All(u16, u16),
     Exists(u16, u16),
     Typical(u16),
-    // what stands past the end of a book; its kind is 255
+    // the answer past the end of a book; its kind is 255
     Absent,
 }
 
@@ -24,24 +24,24 @@ pub enum Entry {
     Inclusion(u16, u16),
     Fact(u16, u16),
     RoleFact(u16, u16, u16),
-    // what stands past the end of a book; its kind is 255
+    // the answer past the end of a book; its kind is 255
     Absent,
 }
 
-// An entry in its place, live until it is struck. A flag, because live and struck entries hold the same fields.
+// An entry as a book stores it, live until it is struck. A flag, because live and struck entries hold the same fields.
 #[derive(Clone, Copy)]
 pub struct StoredEntry {
     pub entry: Entry,
     pub live: bool,
 }
 
-// What stands past the last entry of a book.
+// The answer past the last entry of a book.
 pub const NO_STORED_ENTRY: StoredEntry = StoredEntry {
     entry: Entry::Absent,
     live: false,
 };
 
-// A node as it is written and offered, any numbers at all. The kind is a number, since an unknown kind can be
+// A node as it is written and offered, with any numbers. The kind is a number, since an unknown kind can be
 // offered too, and is then refused.
 #[derive(Clone, Copy, Debug, PartialEq, Eq)]
 pub struct RawNode {

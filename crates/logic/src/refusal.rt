@@ -1,4 +1,4 @@
-// What every refusal reports, whichever call it comes from.
+// What every refusal reports.
 ghost use Rattle.std.specs.Prelude.{◌≡◌, ℕ};
 ghost use Rattle.logic.specs.Lengths.{bad_length_number, bad_length_place};
 
@@ -12,7 +12,7 @@ pub struct Report {
     pub place: usize,
 }
 
-// Number and place are fixed case by case for each type of refusal.
+// A fault: each type defines number and place case by case.
 pub trait Refusal {
     ghost number: { Self → ℕ };
 
@@ -23,8 +23,8 @@ pub trait Refusal {
         ensures place { result.place ≡ place self.now };
 }
 
-// A length that does not do, of the bytes, the list or the buffer that a call was handed. The number of
-// the refusal is in the type, as a number since that is what a planner reads, and the place is the length.
+// A wrong length of the bytes, the list or the buffer that a call was given. The type has the number of the
+// refusal; the place is the length.
 #[derive(Clone, Copy, Debug, PartialEq, Eq, Error)]
 #[error("wrong length {0}")]
 pub struct BadLength<const NUMBER: u8>(pub usize);

@@ -1,4 +1,4 @@
-// The records of a tableau: constraints and edges, which stand on a branch, and the steps that a tableau is written as.
+// The records of a tableau: the constraints and edges of a branch, and the steps that write a tableau.
 ghost use Rattle.std.specs.Prelude.{◌≡◌};
 ghost use Rattle.logic.specs.Branches.{form_number};
 
@@ -7,11 +7,11 @@ ghost use Rattle.logic.specs.Branches.{form_number};
 pub enum Form {
     // the element is in the concept
     Holds,
-    // it is not
+    // the element is not in the concept
     Fails,
     // no better element is in the concept
     Bars,
-    // some better element is
+    // some better element is in the concept
     Admits,
 }
 
@@ -29,7 +29,7 @@ impl From<Form> for u8 {
     }
 }
 
-// A label stands for an element. Labels 0 to 31 are the individuals; new ones count from 32.
+// A label stands for an element. Labels 0 to 31 are the individuals; new ones are numbered from 32.
 #[derive(Clone, Copy, PartialEq, Eq)]
 pub struct Constraint {
     pub label: u8,

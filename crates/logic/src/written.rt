@@ -1,4 +1,4 @@
-// From the numbers of a record to its value, and back.
+// Conversion of the numbers of a record into its value, and back.
 ghost use Rattle.std.specs.Prelude.{◌≡◌};
 ghost use Rattle.logic.specs.Written.{node_of, entry_of, WritesNode, WritesEntry};
 

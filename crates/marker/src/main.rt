@@ -1,5 +1,5 @@
-// Marks hand-ins: prints the line of the verdict on the one in each folder that is named, or on the one in the current
-// folder if none is named.
+// Marks the hand-in in each folder that is named, or in the current folder if none is named: prints the line of its
+// verdict.
 #![tactic(auto)]
 
 ghost use Rattle.std.specs.Prelude.{OnOk};

@@ -27,7 +27,7 @@ byte_of w (suc j) = byte_of (w / 256) j
 abbrev pub name_mask : Model → ℕ → ℕ
 name_mask m a = mask_of (m.atoms a) m.size
 
--- the set to which a role leads from an element; empty where there is no such element
+-- the set to which a role leads from an element; empty if there is no such element
 abbrev pub successor_mask : Model → ℕ → ℕ → ℕ
 successor_mask m r x = if nat_lt x m.size then mask_of (m.roles r x) m.size else 0
 
@@ -35,7 +35,7 @@ successor_mask m r x = if nat_lt x m.size then mask_of (m.roles r x) m.size else
 abbrev pub better_mask : Model → ℕ → ℕ
 better_mask m x = mask_of (λ y. m.better y x) m.size
 
--- mask i of the bytes: 64 are those of the names, and then there are 32 for each role
+-- mask i of the bytes: first the 64 masks of the names, then 32 for each role
 abbrev pub model_mask : Model → ℕ → ℕ
 model_mask m i = if nat_lt i 64 then name_mask m i else successor_mask m ((i - 64) / 32) ((i - 64) % 32)
 
@@ -54,12 +54,12 @@ model_bytes m = first_values bytes_of_interpretation (model_byte m)
 abbrev pub pair_bytes : Model → List ℕ
 pair_bytes m = first_values (4 * m.size) (λ k. byte_of (better_mask m (k / 4)) (k % 4))
 
--- the order has the model's elements, and is its "better"
+-- the order has the model's elements, and its "better"
 pub record MeansBetter (m : Model) (o : Preference) : Type 0 where
   pub size : o.size ≡ m.size
   pub better : (x y : ℕ) → x < m.size → y < m.size → has (o.better x) y ≡ m.better y x
 
--- bytes that are free of faults, and that mean the model with every order that is its "better"
+-- valid bytes, which mean the model with every order that is its "better"
 pub record EncodedModel (m : Model) (bs : List ℕ) : Type 0 where
   pub bytes : AllByRecursion (λ b. b < 256) bs
   pub whole : HasModelLength bs
@@ -67,7 +67,7 @@ pub record EncodedModel (m : Model) (bs : List ℕ) : Type 0 where
   pub size : (interpretation_of bs).size ≡ m.size
   pub means : (o : Preference) (f : Compatible (interpretation_of bs) o) → MeansBetter m o → Alike m (model_of (interpretation_of bs) o f)
 
--- pairs that are a strict order, the model's "better"
+-- pairs that encode a strict order, the model's "better"
 pub record EncodedOrder (m : Model) (ps : List ℕ) : Type 0 where
   pub bytes : AllByRecursion (λ b. b < 256) ps
   pub lawful : PairsLawful ps

@@ -23,14 +23,14 @@ Extension m c mask = (x : ℕ) → (has mask x ≡ true) ↔ ((x < m.size) × Sa
 abbrev pub HaveSets : Model → List Concept → List ℕ → Type 0
 HaveSets m cs list = (i : ℕ) → Extension m (of cs i) (slice_index list i)
 
--- In every model that the interpretation and the order mean, and over all concepts whose sets the list
--- has, the mask is the set of the node's concept.
+-- In every model that the interpretation and the order mean, if the list has the sets of the concepts of
+-- the earlier nodes, the mask is the set of the node's concept.
 abbrev pub SetOfNode : Interpretation → Preference → List ℕ → Node → ℕ → Type 0
 SetOfNode i o list n mask =
     (f : Compatible i o) (cs : List Concept) → HaveSets (model_of i o f) cs list → Extension (model_of i o f) (read cs n) mask
 
--- In every model that the interpretation means, with whatever order, and for all books the sets of whose
--- nodes the list has, the test tells whether the entry is true.
+-- In every model that the interpretation means, with any order, and for every book whose nodes have their
+-- sets in the list, the test tells whether the entry is true.
 abbrev pub TruthOf : Interpretation → List ℕ → Entry → Bool → Type 0
 TruthOf i list e test =
     (o : Preference) (f : Compatible i o) (bk : Book) → HaveSets (model_of i o f) (concepts bk.nodes) list →

@@ -1,7 +1,7 @@
 -- The fields of an interpretation, and which of them are good.
--- Field, first_byte: a field and where it stands. InBytes: there is such a field. Good: what a field has to say. Valid: every field is
--- good. LowestBad: the first byte of the lowest field that is not. FirstWithout: the lowest number that
--- has not a property.
+-- Field, first_byte: a field and its offset. InBytes: the bytes have the field. Good: what a field must satisfy. Valid:
+-- every field is good. LowestBad: the first byte of the lowest field that is not. FirstWithout: the lowest number that
+-- lacks a property.
 -- Assumes nothing.
 use Rattle.std.specs.Prelude.{◌≡◌, ℕ, ◌<◌, ◌≤◌, Some, None, Option}
 use Rattle.logic.specs.Bounds.{name_limit, role_limit, individual_limit}
@@ -28,12 +28,12 @@ InBytes (name a) = a < name_limit
 InBytes (role r x) = (r < role_limit) × (x < element_limit)
 InBytes (individual a) = a < individual_limit
 
--- Of n elements, a role may lead from x to those of the set: all of them are there, and none where x is not.
+-- The set may be the successors of x among n elements: it has only elements below n, and none if x is not below n.
 abbrev pub SuccessorsWithin : ℕ → ℕ → ℕ → Type 0
 SuccessorsWithin n x set = Within n set × (n ≤ x → set ≡ 0)
 
--- There are 1 to 32 elements, no field names an element that is not there, and from such an element no
--- role leads anywhere.
+-- The size is 1 to 32, every field names only elements below it, and no role leads from an element that is
+-- not below it.
 abbrev pub Good : Interpretation → Field → Type 0
 Good i size = (1 ≤ i.size) × (i.size ≤ 32)
 Good i (name a) = Within i.size (i.names a)
@@ -52,7 +52,7 @@ pub record LowestBad (i : Interpretation) (k : ℕ) : Type 0 where
   pub bad : Good i field → ⊥
   pub lowest : (f : Field) → first_byte f < k → Good i f
 
--- the lowest of the numbers below a limit that has not the property, if there is one
+-- the lowest number below a limit that lacks the property, if there is one
 abbrev pub FirstWithout : (ℕ → Type 0) → ℕ → Option ℕ → Type 0
 FirstWithout P n None = (k : ℕ) → k < n → P k
 FirstWithout P n (Some k) = (k < n) × (P k → ⊥) × ((j : ℕ) → j < k → P j)

@@ -1,14 +1,14 @@
 -- Interpretations of at most 32 elements, and their 2,337 bytes.
--- Interpretation: the sets of the names, the roles, and where the individuals are. name_place, role_place,
--- individual_place: where a field stands in the bytes. interpretation_of: what bytes say.
+-- Interpretation: the sets of the names, the roles, the elements of the individuals. name_place, role_place,
+-- individual_place: the offset of a field. interpretation_of: what bytes mean.
 -- Assumes nothing.
 use Rattle.std.specs.Prelude.{ℕ, ◌+◌, ◌*◌, ◌&&◌, if◌then◌else◌, List, nat_lt}
 use Rattle.logic.specs.Bytes.{byte, u32_at}
 use Rattle.logic.specs.Bounds.{name_limit, role_limit, individual_limit}
 use Rattle.orders.specs.Masks.{element_limit}
 
--- The elements are the numbers below size. names a is the set of concept name a, led r x the set of the
--- elements to which role r leads from element x, individual a the element of individual a.
+-- The elements are the numbers below size. names a is the set of concept name a, successors r x the set of
+-- the elements to which role r leads from element x, individual a the element of individual a.
 pub record Interpretation : Type 0 where
   pub size : ℕ
   pub names : ℕ → ℕ
@@ -29,11 +29,11 @@ individuals_begin = 2305
 abbrev pub individual_place : ℕ → ℕ
 individual_place a = individuals_begin + a
 
--- so many bytes are an interpretation
+-- the length of an interpretation, in bytes
 abbrev pub bytes_of_interpretation : ℕ
 bytes_of_interpretation = 2337
 
--- Past the limits nothing is said: the set is empty, and the element 0.
+-- Past the limits the set is empty, and the element is 0.
 abbrev pub interpretation_of : List ℕ → Interpretation
 interpretation_of bs =
     record {

@@ -1,4 +1,4 @@
--- what an interpretation says, and how bytes say it
+-- interpretations, and their bytes
 pub mod Interpretations
 -- which fields of an interpretation are good
 pub mod Fields
@@ -10,7 +10,7 @@ pub mod Views
 pub mod Meanings
 -- the elements in a concept, as masks
 pub mod Extensions
--- masks from masks, for every list
+-- masks computed from masks, for every list
 pub mod NodeMasks
 -- the number and the place of each fault
 pub mod Faults

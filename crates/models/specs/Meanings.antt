@@ -1,5 +1,5 @@
 -- The model that an interpretation and an order mean.
--- Compatible: the order is one of the interpretation's elements. model_of: the model.
+-- Compatible: the order has the interpretation's elements. model_of: the model.
 -- Assumes nothing.
 use Rattle.std.specs.Prelude.{◌≡◌}
 use Rattle.logic.specs.Models.{Model}
@@ -14,7 +14,7 @@ pub record Compatible (i : Interpretation) (o : Preference) : Type 0 where
   pub sized : o.size ≡ i.size
 
 -- the model whose names, roles and individuals are those of the interpretation, and in which y is better
--- than x where the order has y in the set of x
+-- than x if the order has y in the set of x
 abbrev pub model_of : (i : Interpretation) (o : Preference) → Compatible i o → Model
 model_of i o f =
     record {

@@ -1,6 +1,6 @@
 -- The mask of a node and the truth of an entry, from the masks that a list has at the places of their operands. This
--- says what is computed for every list, view and order; where the list has the sets of concepts, and the order and
--- the view mean a model, `Extensions` says what it means.
+-- says what is computed, for every list, view and order. If the list has the sets of concepts, and the order and the
+-- view mean a model, `Extensions` says what it means.
 -- AllSuccessorsIn: the elements from which a role leads only into a set. MaskOfNode: a mask is that of a node.
 -- TrueByMasks: an entry is true.
 -- Assumes nothing.
@@ -30,7 +30,7 @@ MaskOfNode i o list (Exists r c) mask = SomeSuccessorIn i r (slice_index list c)
 MaskOfNode i o list (Typical c) mask = BestOf o (slice_index list c) mask
 MaskOfNode i o list Absent mask = (x : ℕ) → has mask x ≡ false
 
--- the entry is true, where the mask of each node is at its place
+-- the entry is true by the masks at the places of its nodes
 abbrev pub TrueByMasks : Interpretation → List ℕ → Entry → Type 0
 TrueByMasks i list (entry.Inclusion c d) = Includes (slice_index list d) (slice_index list c)
 TrueByMasks i list (entry.Fact a c) = has (slice_index list c) (i.individual a) ≡ true

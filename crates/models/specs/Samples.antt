@@ -1,5 +1,5 @@
 -- The sample model in bytes.
--- sample_bytes: two elements, the sets of names 0, 1 and 2, no roles, every individual at element 0.
+-- sample_bytes: two elements, the sets of names 0, 1 and 2, no roles, every individual is element 0.
 -- Assumes nothing.
 use Rattle.std.specs.Prelude.{ℕ, List, replicate, slice_set}
 use Rattle.models.specs.Interpretations.{bytes_of_interpretation}

@@ -5,7 +5,7 @@ use Rattle.std.specs.Prelude.{[], slice_index, slice_index_or}
 use Rattle.models.specs.declared.fields.Tables.{Tables}
 use Rattle.models.specs.Interpretations.{Interpretation}
 
--- the set of a role at an element stands in the row of the role
+-- the successors of an element by a role are in the row of the role
 abbrev pub by_tables : Tables → Interpretation
 by_tables t =
     record {

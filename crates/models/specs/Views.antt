@@ -20,6 +20,6 @@ good_once i (name n) a b = λ t y h. le_prop (a y h) (b y h) t
 good_once i (role r x) a b = λ t. (λ y h. le_prop (a.0 y h) (b.0 y h) t, λ l. ℕ_set _ _ (a.1 l) (b.1 l) t)
 good_once i (individual n) a b = λ t. le_prop a b t
 
--- validity has one proof at most, so that a view, of which it is known, has the evidence
+-- Validity has at most one proof, so a view that is known to be valid has the evidence.
 pub view_valid : (v : View) → Valid (view_meaning v)
 view_valid v = ∥∥₁_elim v.valid (λ a b t f. good_once (view_meaning v) f (a f) (b f) t) (λ a. a)

@@ -1,4 +1,4 @@
-// Why bytes are no interpretation. Each case holds the place that is reported with it.
+// Why bytes are not an interpretation. Each case holds the place of the refusal.
 ghost use Rattle.models.specs.Faults.{view_fault_number, view_fault_place};
 
 use logic::refusal::{Refusal, Report};

@@ -12,7 +12,7 @@ use logic::bytes::{byte_at, u32_at};
 use orders::masks::within;
 use std::array::from_fn;
 
-// The number of elements, the set of each name, for each role the set at each element, and the element of
+// The number of elements, the set of each name, the successors of each element by each role, and the element of
 // each individual.
 #[derive(Clone, Copy)]
 pub(crate) struct Tables {
@@ -22,14 +22,14 @@ pub(crate) struct Tables {
     pub(crate) individuals: [u8; INDIVIDUALS],
 }
 
-// Whether a role may lead from x to the elements of the set.
+// Whether `set` may be the successors of x, among n elements.
 fn successors_within(n: u8, x: usize, set: u32) -> bool
     ensures { IsTrue result ↔ SuccessorsWithin n x set }
 {
     within(set, n) && (x < n as usize || set == 0)
 }
 
-// The lowest element at which the set of a role is bad. Past the end of a row there are no sets.
+// The lowest element whose successors in the row of a role are bad. Past the end of a row the sets are empty.
 fn first_bad_row(n: u8, row: &[u32; 32]) -> Option<usize>
     ensures lowest { FirstWithout (λ x. SuccessorsWithin n x (slice_index row.now x)) 32 result }
     ensures past { (x : ℕ) → 32 ≤ x → slice_index row.now x ≡ 0 }
@@ -40,7 +40,7 @@ fn first_bad_row(n: u8, row: &[u32; 32]) -> Option<usize>
 }
 
 impl Tables {
-    // The tables of what the bytes say.
+    // The tables of the interpretation that the bytes encode.
     pub(crate) fn from_bytes(bytes: &[u8]) -> Tables
         ensures { by_tables result ≡ interpretation_of bytes.now }
     {
@@ -57,14 +57,14 @@ impl Tables {
         }
     }
 
-    // The lowest name whose set has an element that is not there.
+    // The lowest name whose set has an element from n on.
     fn first_name(&self) -> Option<usize>
         ensures { FirstWithout (λ a. Good (by_tables self.now) (name a)) 64 result }
     {
         self.names.iter().position(|set| !within(*set, self.size))
     }
 
-    // The lowest individual at an element that is not there.
+    // The lowest individual whose element is not below n.
     fn first_individual(&self) -> Option<usize>
         ensures { FirstWithout (λ a. Good (by_tables self.now) (individual a)) 32 result }
     {

@@ -1,5 +1,5 @@
-// Where the fields of an interpretation stand in its bytes: the size, a set for each name, a set for each role at each
-// element, and an element for each individual. A set has four bytes.
+// The offsets of the fields of an interpretation: the size, a set for each name, a set for each role at each element,
+// and an element for each individual. A set has four bytes.
 ghost use Rattle.std.specs.Prelude.{◌≡◌, ◌<◌};
 ghost use Rattle.models.specs.Fields.{first_byte, name, role, individual};
 

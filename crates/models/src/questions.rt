@@ -1,4 +1,4 @@
-// What a view answers, from the interpretation that it holds.
+// Queries of a view, answered from the interpretation that it holds.
 ghost use Rattle.std.specs.Prelude.{◌≡◌, [], slice_index_or};
 ghost use Rattle.models.specs.Views.{view_meaning};
 
@@ -19,7 +19,7 @@ impl View {
         self.tables.names.get(a as usize).copied().unwrap_or(0)
     }
 
-    // For each element those to which a role leads; none past the last role.
+    // For each element the set to which a role leads; no sets past the last role.
     pub(crate) fn row(&self, role: u16) -> &[u32]
         ensures { result.now ≡ slice_index_or self.now.tables.roles role [] }
     {

@@ -1,4 +1,4 @@
-// From bytes to a view.
+// Reading bytes into a view.
 ghost use Rattle.std.specs.Prelude.{◌↔◌, IsOk};
 ghost use Rattle.models.specs.Interpretations.{interpretation_of};
 ghost use Rattle.models.specs.Fields.{Valid};

@@ -5,7 +5,7 @@ ghost use Rattle.models.specs.Samples.{sample_bytes};
 
 use crate::layout::LENGTH;
 
-// Its bytes. With it goes an order in which 1 is better than 0.
+// Its bytes. In the order that belongs to it, 1 is better than 0.
 pub fn model_bytes() -> [u8; LENGTH]
     ensures { result ≡ sample_bytes }
 {

@@ -17,8 +17,8 @@ pub(crate) fn set_at(list: &[u32], i: u16) -> u32
     list.get(i as usize).copied().unwrap_or(0)
 }
 
-// Being an element from which a role leads into a set.
-// A type in place of a closure, which would bring a `requires` on a public call, `mask_of`.
+// The property of an element that a role leads from it into a set. A type, since a closure would need a `requires` on
+// the public call `mask_of`.
 #[derive(Drop)]
 struct SuccessorIn<'a> {
     row: &'a [u32],
@@ -34,7 +34,7 @@ impl<'a> Property for SuccessorIn<'a> {
     }
 }
 
-// Being an element of a set that has no better one in it.
+// The property of an element to be in a set that has no better one.
 #[derive(Drop)]
 struct Best<'a, O> {
     order: &'a O,
@@ -80,9 +80,9 @@ fn typical<O: Order>(order: &O, set: u32) -> u32
     mask_of(&Best { order, set }, order.size())
 }
 
-// The mask of a node, from those that the list has for its operands, whatever they are. Where the list has
-// the sets of the concepts of the nodes before it, and the order is one of the view's elements, it is the set
-// of the node's concept.
+// The mask of a node, from the masks that the list has for its operands, whatever they are. If the list has
+// the sets of the concepts of the earlier nodes, and the order has the view's elements, it is the set of the
+// node's concept.
 pub fn extension<O: Order>(view: &View, order: &O, list: &[u32], node: Node) -> u32
     ensures mask { MaskOfNode (view_meaning view.now) (O.meaning order.now) list.now node result }
     ensures set { SetOfNode (view_meaning view.now) (O.meaning order.now) list.now node result }

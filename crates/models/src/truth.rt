@@ -9,8 +9,8 @@ use crate::view::View;
 use logic::records::Entry;
 use orders::masks::{contains, includes};
 
-// Whether the entry is true by the masks of the list, whatever they are. Where the list has the set of
-// each node of the entry's book: whether the entry is true in the model that the view means, with any order.
+// Whether the entry is true by the masks of the list, whatever they are. If the list has the set of each
+// node of the entry's book: whether the entry is true in the model that the view means, with any order.
 pub fn is_true(view: &View, list: &[u32], entry: Entry) -> bool
     ensures masks { IsTrue result ↔ TrueByMasks (view_meaning view.now) list.now entry }
     ensures truth { TruthOf (view_meaning view.now) list.now entry result }

@@ -1,11 +1,11 @@
--- Sets of elements as masks of bits, and strict orders by the set of the better elements of each.
+-- Sets of elements as masks, and strict orders, given for each element by the set of better elements.
 -- has: an element is in a set. all_below, mask_of: the mask of given elements. meeting: two sets have
 -- an element in common. Within, Includes: what a set has. Preference: an order. Strict: its laws.
 -- by_rows: the order of a table of masks.
 -- Assumes nothing.
 use Rattle.std.specs.Prelude.{◌≡◌, ℕ, zero, suc, ◌+◌, ◌-◌, ◌*◌, ◌/◌, ◌%◌, ◌^◌, ◌<◌, ◌≤◌, min, Bool, true, false, if◌then◌else◌, not, List, ◌==◌, bit_and, slice_index}
 
--- an order has at most so many elements, one for each bit of a mask
+-- the most elements of an order, one for each bit of a mask
 abbrev pub element_limit : ℕ
 element_limit = 32
 
@@ -14,11 +14,11 @@ abbrev pub has : ℕ → ℕ → Bool
 has mask zero = mask % 2 == 1
 has mask (suc y) = has (mask / 2) y
 
--- every element below n, of those that there can be
+-- every element below n, at most the limit
 abbrev pub all_below : ℕ → ℕ
 all_below n = 2 ^ min n element_limit - 1
 
--- the mask of those of the k elements from x on that pass the test, with element x at bit 0
+-- the mask of those of the k elements from x on that pass the test; bit 0 is element x
 abbrev pub gathered : (ℕ → Bool) → ℕ → ℕ → ℕ
 gathered p x zero = 0
 gathered p x (suc k) = (if p x then 1 else 0) + 2 * gathered p (x + 1) k
@@ -39,7 +39,7 @@ Within n set = (y : ℕ) → has set y ≡ true → y < n
 abbrev pub Includes : ℕ → ℕ → Type 0
 Includes set other = (y : ℕ) → has other y ≡ true → has set y ≡ true
 
--- The elements are the numbers below size; better x is the mask of the elements better than x. No law is asked.
+-- The elements are the numbers below size; better x is the mask of the elements better than x. No law is required.
 pub record Preference : Type 0 where
   pub size : ℕ
   pub better : ℕ → ℕ
@@ -61,6 +61,6 @@ by_rows n masks = record { size = n; better = λ x. slice_index masks x }
 abbrev pub alone : Preference
 alone = record { size = 1; better = λ x. 0 }
 
--- the table has what the function gives, at every place
+-- the table has the value of the function at every place
 abbrev pub Tabulates : (ℕ → ℕ) → List ℕ → Type 0
 Tabulates f masks = (x : ℕ) → slice_index masks x ≡ f x

@@ -1,12 +1,12 @@
 -- Orders by pairs: four bytes for each element, the mask of the elements that are better.
--- order_of_pairs: the order that bytes say. LawfulRow: what is asked of the set of one element.
--- PairsLawful: the bytes that are a strict order.
+-- order_of_pairs: the order that bytes encode. LawfulRow: what the set of one element must satisfy.
+-- PairsLawful: the bytes encode a strict order.
 -- Assumes nothing.
 use Rattle.std.specs.Prelude.{◌≡◌, ℕ, ◌*◌, ◌/◌, ◌%◌, ◌<◌, ◌≤◌, true, false, List, length, Some, None, Option, slice_index}
 use Rattle.logic.specs.Bytes.{u32_at}
 use Rattle.orders.specs.Masks.{element_limit, has, Within, Includes, Preference, Strict}
 
--- the order that the bytes say
+-- the order that the bytes encode
 abbrev pub order_of_pairs : List ℕ → Preference
 order_of_pairs bs = record { size = length bs / 4; better = λ x. u32_at bs (4 * x) }
 
@@ -16,15 +16,15 @@ pub record WholeRows (bs : List ℕ) : Type 0 where
   pub some : 4 ≤ length bs
   pub few : length bs ≤ 4 * element_limit
 
--- the bytes are a strict order
+-- the bytes encode a strict order
 abbrev pub PairsLawful : List ℕ → Type 0
 PairsLawful bs = WholeRows bs × Strict (order_of_pairs bs)
 
--- where the row has y, it includes the row of y
+-- if the row has y, it includes the row of y
 abbrev pub TransitiveAt : List ℕ → ℕ → ℕ → Type 0
 TransitiveAt rows row y = has row y ≡ true → Includes row (slice_index rows y)
 
--- the set of x has no element past the size, not x itself, and with each element the set of that element
+-- the set of x has no element past the size and not x itself, and includes the set of each of its elements
 pub record LawfulRow (o : Preference) (x : ℕ) : Type 0 where
   pub within : Within o.size (o.better x)
   pub other : has (o.better x) x ≡ false

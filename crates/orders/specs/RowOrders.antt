@@ -12,7 +12,7 @@ use Rattle.orders.specs.Masks.{Preference, Strict, by_rows}
 abbrev pub order_of_rows : Rows → Preference
 order_of_rows r = by_rows r.size r.masks
 
--- the laws have one proof at most, so that rows, of which they are known to hold, have their evidence
+-- The laws have at most one proof, so rows that are known to satisfy them have the evidence.
 pub order_strict : (r : Rows) → Strict (order_of_rows r)
 order_strict r =
     ∥∥₁_elim r.strict

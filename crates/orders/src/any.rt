@@ -5,7 +5,7 @@ use crate::order::Order;
 use crate::pairs::Pairs;
 use crate::ranks::Ranks;
 
-// An order by pairs or by ranks, for lists that have both.
+// An order by pairs or by ranks, for lists that contain both kinds.
 #[derive(Drop)]
 pub enum AnyOrder {
     Pairs(Pairs),

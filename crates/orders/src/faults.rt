@@ -1,4 +1,4 @@
-// Why an order is not filled. Each case holds the place that is reported with it.
+// Why an order is not filled. Each case holds the place of the refusal.
 ghost use Rattle.orders.specs.Faults.{pairs_fault_number, pairs_fault_place};
 
 use logic::refusal::{BadLength, Refusal, Report};

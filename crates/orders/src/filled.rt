@@ -1,4 +1,4 @@
-// An order that is filled from bytes, in whichever encoding.
+// An order that is filled from bytes, in some encoding.
 ghost use Rattle.std.specs.Prelude.{◌≡◌, ◌↔◌, ℕ, List, IfOk, IfErr, IsOk};
 ghost use Rattle.orders.specs.Masks.{Preference, alone};
 ghost use Rattle.orders.specs.RowOrders.{order_of_rows, order_strict};
@@ -18,7 +18,7 @@ pub trait Encoding {
 
     ghost order_of_bytes: { List ℕ → Preference };
 
-    // which fault is returned for bytes that encode none
+    // which fault is returned for bytes that encode no order
     ghost Refused: { List ℕ → Self.Fault → Type 0 };
 
     // The order that the bytes encode, or the fault.

@@ -2,10 +2,10 @@
 ghost use Rattle.std.specs.Prelude.{◌≡◌, ◌↔◌, ℕ, min, Bool, not, ◌&&◌, IsTrue};
 ghost use Rattle.orders.specs.Masks.{element_limit, has, all_below, mask_of, meeting, Within, Includes};
 
-// How many elements an order has at most: one for each bit of a mask.
+// The most elements of an order: one for each bit of a mask.
 pub const ELEMENTS: u8 = 32;
 
-// The set of all elements below n, of the 32 that there can be.
+// The set of all elements below n, at most 32.
 pub fn all_below(n: u8) -> u32
     ensures { result ≡ all_below n }
 {
@@ -55,7 +55,7 @@ pub trait Property {
         ensures { result ≡ holds self.now x };
 }
 
-// The set of the elements below n, of the 32 that there can be, that have the property.
+// The set of the elements below n, at most 32, that have the property.
 pub fn mask_of<P: Property>(property: &P, n: u8) -> u32
     ensures { result ≡ mask_of (P.holds property.now) (min n element_limit) }
 {

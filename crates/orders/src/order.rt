@@ -2,8 +2,8 @@
 ghost use Rattle.std.specs.Prelude.{◌≡◌};
 ghost use Rattle.orders.specs.Masks.{Preference, Strict};
 
-// It means, for each element, the set of the elements that are better. A question alters nothing and
-// is answered from the meaning alone.
+// It means, for each element, the set of the elements that are better. A query changes nothing, and its
+// answer depends on the meaning alone.
 pub trait Order {
     ghost meaning: { Self → Preference };
 

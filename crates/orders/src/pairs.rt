@@ -20,7 +20,7 @@ pub struct ByPairs;
 
 pub type Pairs = Filled<ByPairs>;
 
-// The rows of at most 32 elements that were offered: unlike `Rows`, they need not be strict.
+// Offered rows of at most 32 elements: unlike `Rows`, they need not be strict.
 #[derive(Drop)]
 struct OfferedRows {
     size: u8,
@@ -29,7 +29,7 @@ struct OfferedRows {
 }
 
 impl OfferedRows {
-    // Whether the row includes the row of each element that it has.
+    // Whether the row includes the row of each of its elements.
     fn closed(&self, row: u32) -> bool
         ensures { IsTrue result ↔ ((y : ℕ) → y < self.now.size → TransitiveAt self.now.rows row y) }
     {

@@ -26,7 +26,7 @@ fn beats(a: u8, b: u8) -> bool
     a < b
 }
 
-// Having a rank lower than `rank`.
+// The property of having a rank lower than `rank`.
 #[derive(Drop)]
 struct LowerThan<'a> {
     ranks: &'a [u8],

@@ -1,6 +1,6 @@
 -- The outcomes of repeated judging.
--- InMemory: the book takes memory. no_memory, outcome_of: the outcomes. RefutedBy, SatisfiedBy: the judge's answer over
--- a book. TableauOutcome, ModelOutcome: the outcome for a hand-in.
+-- InMemory: the book is kept in memory. no_memory, outcome_of: the outcomes. RefutedBy, SatisfiedBy: the judge's answer
+-- over a book. TableauOutcome, ModelOutcome: the outcome for a hand-in.
 -- Assumes nothing.
 use Rattle.std.specs.Prelude.{◌≡◌, ◌⊎◌, ℕ, List, Ok, Err, Result}
 use Rattle.logic.specs.Books.{Book}
@@ -44,7 +44,7 @@ SatisfiedBy bk ms o (Err (Pairs f)) = ⊥
 SatisfiedBy bk ms o (Err (Refute f)) = ⊥
 SatisfiedBy bk ms o (Err (Show f)) = (list : List ℕ) × ShowPromise bk ms o marker_sets list (Err f)
 
--- the marker's answer to a tableau, however the book is kept; or that there was no memory, if the book takes memory
+-- the marker's answer to a tableau, however the book is kept; or no_memory, if the book is kept in memory
 abbrev pub TableauOutcome : ℕ → List ℕ → List ℕ → Outcome → Type 0
 TableauOutcome kept bs ss o =
     ((o ≡ no_memory) × InMemory kept) ⊎ ((r : Result ℕ MarkFault) × TableauAnswer bs ss r × (o ≡ outcome_of r))

@@ -87,7 +87,7 @@ const NO_MEMORY: Outcome = Outcome {
     place: 0,
 };
 
-// The ways to keep a book. Any other number: in its sealed bytes.
+// The values of `kept`: how the book is kept. Any other number: in its sealed bytes.
 const SLOT_TABLE: u8 = 1;
 
 const JOURNAL: u8 = 2;

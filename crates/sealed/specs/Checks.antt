@@ -1,6 +1,6 @@
 -- What check and seal answer.
 -- Passes: the trailer fits and every record is granted in its turn. CheckAnswer, SealAnswer: what the calls answer.
--- Opened: what opening bytes gives. RoundTrip: what was written reads back.
+-- Opened: what opening bytes gives. RoundTrip: sealing and reading agree.
 -- Assumes nothing.
 use Rattle.std.specs.Prelude.{◌≡◌, ℕ, ◌+◌, ◌*◌, ◌<◌, true, false, List, [], ◌++◌, length, drop, Ok, Err, Result}
 use Rattle.logic.specs.declared.refusal.BadLength.{BadLength}
@@ -40,13 +40,13 @@ pub data Bad (bs : List ℕ) (f : CheckFault) : Type 0 where
       AllGranted (node_refusal_in bs (node_start bs n m)) n →
       FirstRefused (entry_refusal_in bs (nodes_in bs (node_start bs n m) n) (entry_start bs m)) m (entry_start bs m) entry_size f → Bad bs f
 
--- passed: the bytes are a sealed book; refused: they are none, and this is the first thing wrong
+-- passed: the bytes are a sealed book; refused: they are not, and this is the first fault
 abbrev pub CheckAnswer : List ℕ → Result (Unit {0}) CheckFault → Type 0
 CheckAnswer bs (Ok u) = Sealed bs
 CheckAnswer bs (Err f) = (Sealed bs → ⊥) × Bad bs f
 
--- sealed: the writing stands at the front of the buffer, the rest of which is as it was; refused:
--- the buffer is too short for the writing, and nothing changed
+-- sealed: the buffer begins with the bytes of the book, and the rest is unchanged; refused: the buffer
+-- is too short for them, and nothing changed
 abbrev pub SealAnswer : Book → List ℕ → List ℕ → Result ℕ (BadLength 20) → Type 0
 SealAnswer bk out out' (Ok n) = (n ≡ length (book_bytes bk)) × (out' ≡ book_bytes bk ++ drop n out)
 SealAnswer bk out out' (Err f) =
@@ -57,8 +57,8 @@ pub record Opened (bs : List ℕ) (bk : Book) : Type 0 where
   pub sealed : (sealed : Book) → SealedAs bs sealed → bk ≡ sealed
   pub unsealed : (Sealed bs → ⊥) → bk ≡ empty
 
--- These bytes are the book, sealed; no other book is sealed in them; and if the book was sealed
--- without a note before, these are the same bytes again.
+-- These bytes are the book, sealed; no other book is sealed in them; and any bytes without a note in
+-- which the book is sealed are these bytes.
 pub record RoundTrip (bk : Book) (bytes : List ℕ) : Type 0 where
   pub sealed : SealedAs bytes bk
   pub only : (other : Book) → SealedAs bytes other → other ≡ bk

@@ -1,4 +1,4 @@
--- The records of a frame: bytes with the counts of the records that stand in them, right before a trailer.
+-- The records of a frame: bytes with the counts of the records in them, which end right before a trailer.
 -- Assumes nothing.
 use Rattle.std.specs.Prelude.{◌≡◌, ℕ, ◌+◌, ◌*◌, true, List}
 use Rattle.logic.specs.declared.records.Node.{Node}
@@ -8,7 +8,7 @@ use Rattle.sealed.specs.declared.frame.Frame.{Frame}
 use Rattle.sealed.specs.Writing.{node_size, entry_size}
 use Rattle.sealed.specs.Reading.{node_start, entry_start, nodes_in, entries_in, node_total, entry_total, has_trailer, sealed_book}
 
--- where node i begins, and where entry j does
+-- the offset of node i, and that of entry j
 abbrev pub node_place : Frame → ℕ → ℕ
 node_place f i = node_start f.bytes.now f.counts.nodes f.counts.entries + node_size * i
 

@@ -2,7 +2,7 @@
 pub mod Writing
 -- how sealed bytes are read
 pub mod Reading
--- what stands in a frame
+-- the records of a frame
 pub mod Frames
 -- what a sealed book means
 pub mod SealedBooks

@@ -46,8 +46,8 @@ entry_total bs = u16_at bs (length bs - 6)
 unfoldable pub distance : List ℕ → ℕ
 distance bs = u32_at bs (length bs - 4)
 
--- There is a trailer, its counts are within the limits, and its distance is that of the counts and
--- leads to a place within the bytes.
+-- There is a trailer, its counts are within the limits, and its distance is that of the counts and not
+-- longer than the bytes before the trailer.
 abbrev pub has_trailer : List ℕ → Bool
 has_trailer bs =
     nat_le trailer_size (length bs)
@@ -56,7 +56,7 @@ has_trailer bs =
     && (distance bs == records_length (node_total bs) (entry_total bs)
     && nat_le (distance bs) (length bs - trailer_size))))
 
--- where the first node begins, and where the first entry does
+-- the offset of the first node, and that of the first entry
 abbrev pub node_start : List ℕ → ℕ → ℕ → ℕ
 node_start bs n m = length bs - trailer_size - records_length n m
 
@@ -67,7 +67,7 @@ entry_start bs m = length bs - trailer_size - entry_size * m
 abbrev pub sealed_book : List ℕ → ℕ → ℕ → Book
 sealed_book bs n m = record { nodes = nodes_in bs (node_start bs n m) n; entries = entries_in bs (entry_start bs m) m }
 
--- why node i is refused when it is offered to the book of the nodes before it; 0 where it is granted
+-- why node i is refused when it is offered to the book of the nodes before it; 0 if it is granted
 abbrev pub node_refusal_in : List ℕ → ℕ → ℕ → ℕ
 node_refusal_in bs from i = node_refusal (record { nodes = nodes_in bs from i; entries = [] }) (raw_node_at bs (from + node_size * i))
 

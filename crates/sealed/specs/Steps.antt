@@ -14,11 +14,11 @@ use Rattle.sealed.specs.Reading.{raw_node_at, node_start, entry_start, node_refu
 use Rattle.sealed.specs.Frames.{node_place, entry_place, first_nodes}
 use Rattle.sealed.specs.Checks.{AllGranted, Passes, FirstRefused, Bad}
 
--- the marks tell of each node whether it is plain; past the end they say yes
+-- mark i tells whether node i is plain, and is true past the end
 abbrev pub PlainMarks : List Bool → List Node → Type 0
 PlainMarks marks ns = (k : ℕ) → slice_index_or marks k true ≡ plain (of (concepts ns) k)
 
--- why node i is refused when it is offered to the book of the nodes before it; 0 where it is granted
+-- why node i is refused when it is offered to the book of the nodes before it; 0 if it is granted
 abbrev pub node_refused : Frame → ℕ → ℕ
 node_refused f i = node_refusal_in f.bytes.now (node_start f.bytes.now f.counts.nodes f.counts.entries) i
 
@@ -48,7 +48,7 @@ abbrev pub EntriesChecked : Frame → Result (Unit {0}) CheckFault → Type 0
 EntriesChecked f (Ok u) = AllGranted (entry_refused f) f.counts.entries
 EntriesChecked f (Err fault) = FirstRefused (entry_refused f) f.counts.entries (entry_start f.bytes.now f.counts.entries) entry_size fault
 
--- the frame of bytes that pass, or the first thing wrong with them
+-- the frame of the bytes if they pass, or else the first fault
 abbrev pub FrameChecked : List ℕ → Result Frame CheckFault → Type 0
 FrameChecked bs (Ok f) = (f.bytes.now ≡ bs) × Passes f.bytes.now f.counts.nodes f.counts.entries
 FrameChecked bs (Err fault) = Bad bs fault

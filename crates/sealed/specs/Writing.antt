@@ -40,7 +40,7 @@ abbrev pub entry_bytes : StoredEntry → List ℕ
 entry_bytes l =
     (entry_kind l.entry + (if l.live then 0 else struck_mark)) ∷ (u16_bytes (entry_a l.entry) ++ (u16_bytes (entry_b l.entry) ++ u16_bytes (entry_c l.entry)))
 
--- how many bytes n nodes and m entries have
+-- the length of n nodes and m entries, in bytes
 abbrev pub records_length : ℕ → ℕ → ℕ
 records_length n m = node_size * n + entry_size * m
 

@@ -1,4 +1,4 @@
-// Records at an offset of the bytes.
+// Reading records at an offset of the bytes.
 ghost use Rattle.std.specs.Prelude.{◌≡◌, ◌+◌, ◌-◌, ◌≤◌, nat_lt, length, if◌then◌else◌};
 ghost use Rattle.sealed.specs.Writing.{struck_mark};
 ghost use Rattle.sealed.specs.Reading.{raw_node_at, raw_entry_at, stored_at_offset};

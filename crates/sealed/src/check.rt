@@ -13,7 +13,7 @@ use crate::frame::Frame;
 use books::offers::{PlainOperands, judge_entry, judge_node, plain_node, typical_node};
 use logic::limits::NODES;
 
-// The mark of a node; past the last mark a node is plain.
+// The mark of node i: whether it is plain; true past the last mark.
 fn mark_at(marks: &[bool], i: u16) -> bool
     ensures { result ≡ slice_index_or marks.now i true }
 {
@@ -30,8 +30,8 @@ fn plain_operands(marks: &[bool], a: u16, b: u16) -> PlainOperands
     }
 }
 
-// Checks node i of a frame, by the marks of the nodes before it: its mark, or its fault. Separate from the entry
-// version because the tests differ.
+// Checks node i of a frame, by the marks of the nodes before it: its mark, or its fault. Separate from `check_entry`
+// because the tests differ.
 fn check_node(frame: &Frame, i: u16, marks: &[bool]) -> Result<bool, CheckFault>
     requires within { i < frame.now.counts.nodes }
     requires marked { PlainMarks marks.now (first_nodes frame.now i) }
@@ -46,7 +46,7 @@ fn check_node(frame: &Frame, i: u16, marks: &[bool]) -> Result<bool, CheckFault>
     Ok(plain_node(node, plain_operands))
 }
 
-// A frame whose nodes were checked, with their marks: whether each is plain.
+// A frame whose nodes were checked, with their marks.
 #[derive(Drop)]
 struct Marked<'a> {
     frame: Frame<'a>,
@@ -93,7 +93,7 @@ impl<'a> Marked<'a> {
     }
 }
 
-// The frame of bytes that pass, or the first thing wrong with them.
+// The frame of the bytes if they pass, or else the first fault.
 pub(crate) fn checked(bytes: &[u8]) -> Result<Frame, CheckFault>
     ensures { FrameChecked bytes.now result }
 {

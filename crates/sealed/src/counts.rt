@@ -1,4 +1,4 @@
-// The sizes of the records of sealed bytes, in bytes, and how many records there are.
+// The sizes of sealed records, in bytes, and the counts of the records.
 ghost use Rattle.std.specs.Prelude.{◌≡◌};
 ghost use Rattle.sealed.specs.Writing.{records_length};
 

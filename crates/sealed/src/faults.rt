@@ -1,4 +1,4 @@
-// Why bytes are no sealed book, and why a book is not sealed.
+// Why bytes are not a sealed book, and why a book is not sealed.
 ghost use Rattle.sealed.specs.Faults.{check_fault_number, check_fault_place};
 
 use books::faults::Unfit;

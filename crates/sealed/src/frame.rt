@@ -1,4 +1,4 @@
-// Bytes with the counts of the records that stand in them, right before a trailer.
+// Bytes with the counts of the records in them, which end right before a trailer.
 ghost use Rattle.std.specs.Prelude.{◌≡◌, ◌+◌, ◌-◌, ◌*◌, ◌<◌, ◌≤◌, false, ◌&&◌, length, MatchOption, ◌==◌, nat_le};
 ghost use Rattle.sealed.specs.Writing.{records_length};
 ghost use Rattle.sealed.specs.Reading.{has_trailer};
@@ -35,7 +35,7 @@ impl<'a> Frame<'a> {
     ghost use Rattle.logic.specs.Books.{node_at, stored_at};
     ghost use Rattle.sealed.specs.Frames.{node_place, entry_place, book_in, EndsInTrailer};
 
-    // The bytes and both counts, where the trailer fits.
+    // The bytes and both counts, if the trailer fits.
     pub(crate) fn read(bytes: &'a [u8]) -> Option<Frame<'a>>
         ensures { MatchOption result (has_trailer bytes.now ≡ false)
             (λ f. (f.bytes.now ≡ bytes.now) × EndsInTrailer f) }

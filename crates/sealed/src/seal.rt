@@ -20,7 +20,7 @@ fn node_bytes(node: Node) -> [u8; NODE]
     [raw.kind, a, aa, b, bb]
 }
 
-// The bytes of an entry, its kind marked where it is struck.
+// The bytes of an entry, its kind marked if it is struck.
 fn entry_bytes(stored: StoredEntry) -> [u8; ENTRY]
     requires { is_entry stored.entry ≡ true }
     ensures { result ≡ entry_bytes stored }
@@ -59,8 +59,8 @@ fn put(out: &mut [u8], at: usize, bytes: &[u8]) -> usize
     end
 }
 
-// Writes a book without a note at the front of a buffer and returns the length; the bytes past it stay as they
-// were. Refused where the buffer is shorter than the writing.
+// Writes a book without a note at the front of a buffer and returns the length; the bytes past it stay unchanged.
+// Refused if the buffer is too short for the book.
 pub fn seal<B: ReadableBook>(book: &B, out: &mut [u8]) -> Result<usize, SealFault>
     ensures answer { SealAnswer (B.ReadableBook.meaning book.now) out.old out.new result }
     ensures trip { IfOk result (λ n. RoundTrip (B.ReadableBook.meaning book.now) (take n out.new)) }

@@ -13,7 +13,7 @@ use crate::frame::Frame;
 use books::book::ReadableBook;
 use logic::records::{Node, StoredEntry};
 
-// The sealed bytes and their two counts: check passes, or both counts are 0. So the book is lawful. Its questions
+// The sealed bytes and their two counts: check passes, or both counts are 0. So the book is lawful. Its queries
 // read the records at their offsets.
 #[derive(Clone, Copy)]
 pub struct SealedBook<'a> {
@@ -35,7 +35,7 @@ impl<'a> SealedBook<'a> {
         Ok(SealedBook { frame })
     }
 
-    // The book that is sealed in these bytes, or the empty book where check refuses them.
+    // The book that is sealed in these bytes, or the empty book if check refuses them.
     pub fn open(bytes: &'a [u8]) -> SealedBook<'a>
         ensures within { opened_on result ≡ bytes.now }
         ensures opened { Opened bytes.now (meaning result) }

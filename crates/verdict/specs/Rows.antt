@@ -1,6 +1,6 @@
 -- The sample rows: for each sample input the contract can be met, and only by the expected answer.
 -- Gives: the outcomes of a call. RefusedAt: a refusal by number and place. pairs, lists: what is handed over.
--- FillPairs, FillRanks, ShowSample, Refute: the promises of calls. Samples: what the samples are. Rows: the rows.
+-- FillPairs, FillRanks, ShowSample, Refute: the promises of calls. Samples: the samples. Rows: the rows.
 -- Assumes nothing.
 use Rattle.std.specs.Prelude.{◌≡◌, ℕ, ◌-◌, ◌≤◌, List, [], ◌∷◌, ◌++◌, length, take, Ok, Result, IsOkAnd, IsErrAnd, slice_index, slice_range}
 use Rattle.logic.specs.declared.records.RawNode.{RawNode}
@@ -36,7 +36,7 @@ use Rattle.judge.specs.Steps.{encoded}
 use Rattle.judge.specs.Members.{member_count}
 use Rattle.judge.specs.Refutations.{RefuteAnswer}
 
--- an answer, and what the call leaves
+-- an answer, and what the call leaves in its argument
 pub record CallOutcome (R S : Type 0) : Type 0 where
   pub answer : R
   pub left : S
@@ -46,7 +46,7 @@ pub record Gives {A : Type 0} (Promise Row : A → Type 0) : Type 0 where
   pub some : (a : A) × Promise a
   pub every : (a : A) → Promise a → Row a
 
--- refused by this number at this place
+-- refused with this number and place
 abbrev pub RefusedAt : {T F : Type 0} → (F → ℕ) → (F → ℕ) → ℕ → ℕ → Result T F → Type 0
 RefusedAt number_of place_of number place r = IsErrAnd r (λ f. (number_of f ≡ number) × (place_of f ≡ place))
 
@@ -65,7 +65,8 @@ FillPairs bs before fill = FillAnswer PairsLawful order_of_pairs PairsRefused be
 abbrev pub FillRanks : List ℕ → Preference → Filling (BadLength 7) → Type 0
 FillRanks bs before fill = FillAnswer RanksLawful order_of_ranks RanksRefused before fill.left bs fill.answer
 
--- show is handed the sample book and the sample model, this order, and a list of seven places, which it leaves
+-- show of the sample book and the sample model, with this order and a list of seven places: the answer, and the list
+-- afterwards
 abbrev pub ShowSample : Preference → CallOutcome (Result ℕ ShowFault) (List ℕ) → Type 0
 ShowSample o show = (length show.left ≡ 7) × ShowPromise sample sample_bytes o 7 show.left show.answer
 
@@ -73,19 +74,19 @@ ShowSample o show = (length show.left ≡ 7) × ShowPromise sample sample_bytes 
 abbrev pub lists : ℕ → ℕ → ℕ → Lengths
 lists constraints edges splits = record { constraints = constraints; edges = edges; splits = splits }
 
--- refute is handed a book and steps, and lists of these lengths
+-- refute of a book and steps, with lists of these lengths
 abbrev pub Refute : Book → Lengths → List Step → Result Used RefuteFault → Type 0
 Refute bk ls ss answer = RefuteAnswer bk ls (encoded ss) answer
 
--- seal is handed the sample book, and a buffer, which it leaves
+-- seal of the sample book into a buffer: the answer, and the buffer afterwards
 abbrev pub SealSample : List ℕ → CallOutcome (Result ℕ (BadLength 20)) (List ℕ) → Type 0
 SealSample out seal = SealAnswer sample out seal.left seal.answer
 
--- a node is offered to the sample book, which is left
+-- a node is offered to the sample book: the answer, and the book afterwards
 abbrev pub OfferNode : RawNode → CallOutcome (Result ℕ (OfferFault RawNode)) Book → Type 0
 OfferNode raw offer = OfferAnswer nodes sample offer.left raw offer.answer
 
--- the last of the first n bytes of a buffer are this list
+-- the first n bytes of a buffer end in this list
 abbrev pub Ends : List ℕ → ℕ → List ℕ → Type 0
 Ends bytes n out = slice_range out (n - length bytes) n ≡ bytes
 
@@ -108,14 +109,14 @@ pub record Rows : Type 0 where
   -- the sample model with ranks 0, 0: entry 0 fails
   pub entry_fails : (before : Preference) (fill : Filling (BadLength 7)) → FillRanks (0 ∷ 0 ∷ []) before fill →
       Gives (ShowSample fill.left) (λ show. RefusedAt show_fault_number show_fault_place 18 0 show.answer)
-  -- pairs 2, 1: the set of element 0 is not lawful, and the order stays
+  -- pairs 2, 1: the set of element 0 is not lawful, and the order stays unchanged
   pub unlawful : (before : Preference) →
       Gives (FillPairs (pairs 2 1) before) (λ fill. RefusedAt pairs_fault_number pairs_fault_place 15 0 fill.answer × (fill.left ≡ before))
   -- the refutation, in lists for 5 constraints and 1 split: it names 4 entries
   pub closed : (edges : ℕ) → Gives (Refute unsatisfiable_sample (lists 5 edges 1) refutation) (λ answer. IsOkAnd answer (λ used. member_count used ≡ 4))
   -- in lists for 4 constraints: step 6 finds no room
   pub list_full : (edges : ℕ) → Gives (Refute unsatisfiable_sample (lists 4 edges 1) refutation) (RefusedAt refute_fault_number refute_fault_place 11 6)
-  -- the wrong hand-in, in lists for 7 constraints and 2 splits or more: no rule has step 6
+  -- the wrong hand-in, in lists for 7 constraints and 2 splits or more: no rule permits step 6
   pub no_rule : (ls : Lengths) → 7 ≤ ls.constraints → 2 ≤ ls.splits →
       Gives (Refute sample ls wrong_steps) (RefusedAt refute_fault_number refute_fault_place 10 6)
   -- seal writes 64 bytes, which are the sample book, sealed, and end in these eight

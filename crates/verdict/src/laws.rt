@@ -1,8 +1,8 @@
 // Theorems about the definitions, each on the contract of a function that does nothing.
 ghost use Rattle.verdict.specs.Laws.{DecimalsRead, LinesFit};
 
-/// The decimal of a number has digits alone and no leading zero, and reads as that number. Bytes that read as a number of
-/// 32 bits are its decimal.
+/// The decimal of a number has only digits and no leading zero, and reads as that number. Bytes that read as a number
+/// of 32 bits are its decimal.
 pub fn decimals_read()
     ensures { DecimalsRead }
 {}

@@ -1,4 +1,4 @@
-// Verdicts, and the line that is printed of each.
+// Verdicts, and the line that is printed for each.
 #![tactic(auto)]
 
 pub mod laws;

@@ -67,8 +67,8 @@ impl Cursor<'_> {
     }
 }
 
-/// Writes the line of a verdict at the front of a buffer and answers its length. The bytes past it stay. A buffer of fewer
-/// than `LONGEST` bytes is refused and stays as it was.
+/// Writes the line of a verdict at the front of a buffer and returns its length. The bytes past it stay unchanged. A
+/// buffer of fewer than `LONGEST` bytes is refused and stays unchanged.
 pub fn line(verdict: Verdict, out: &mut [u8]) -> Result<usize, LineFault>
     ensures { LineAnswer verdict out.old out.new result }
 {

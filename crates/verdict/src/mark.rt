@@ -26,7 +26,7 @@ fn first(bytes: &[u8]) -> &[u8]
     bytes.get(..WHOLE).unwrap_or(bytes)
 }
 
-// Checks the book and refutes it: the number of entries used, or the first fault.
+// Checks the book and judges the tableau: the number of entries used, or the first fault.
 fn refuted(book: &[u8], steps: &[u8]) -> Result<u16, MarkFault>
     ensures { TableauAnswer book.now steps.now result }
 {
@@ -38,7 +38,7 @@ fn refuted(book: &[u8], steps: &[u8]) -> Result<u16, MarkFault>
     Ok(used.count())
 }
 
-// Checks the book, fills the pairs and shows the model: the number of elements, or the first fault.
+// Checks the book, fills the pairs and judges the model: the number of elements, or the first fault.
 fn satisfied(book: &[u8], model: &[u8], pairs: &[u8]) -> Result<u8, MarkFault>
     ensures { ModelAnswer book.now model.now pairs.now result }
 {

@@ -37,7 +37,7 @@ impl Refusal for MarkFault {
     }
 }
 
-// An impl for each lower fault: derived ones have no `from_gives`, by which a clause reads what a `?` makes.
+// One impl for each lower fault, by hand: derived ones lack `from_gives`, which tells a clause what `?` converts to.
 impl From<CheckFault> for MarkFault {
     ghost from_gives = { λ e f. f ≡ Check e };
 

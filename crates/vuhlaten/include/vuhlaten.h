@@ -1,8 +1,8 @@
 /* Marking of hand-ins against sealed rule books.
 
    The calls are in the static library of the crate `vuhlaten` (`rt lib` in its folder makes out/libvuhlaten.a). It needs
-   nothing but memcpy, memmove and memset. What each call does is proved of the library's code; that a caller keeps to
-   what is asked here, nothing checks.
+   nothing but memcpy, memmove and memset. What each call does is proved of the library's code. Nothing checks that a
+   caller does what is required here.
 
    Bytes are a pointer and a length.
    - NULL with length 0 stands for no bytes. With any other length a pointer is not NULL.
@@ -21,12 +21,12 @@
 extern "C" {
 #endif
 
-/* So many bytes hold every line. */
+/* A buffer of this many bytes has room for every line. */
 #define VUHLATEN_LINE 33
 
 /* Marks a tableau: `book` is a sealed book and `steps` are the steps, five bytes each. Writes the line of the verdict,
-   with its line feed and no zero behind it, at the front of `out`, and returns its length; bytes past it stay. In a
-   buffer of less than VUHLATEN_LINE bytes nothing is written, and 0 is returned. The line is one of
+   with its line feed and no zero after it, at the front of `out`, and returns its length; bytes past it stay unchanged.
+   If the buffer has less than VUHLATEN_LINE bytes, nothing is written and 0 is returned. The line is one of
 
        closed, entries used 4
        refused 13 at 7
@@ -36,7 +36,7 @@ size_t vuhlaten_mark_tableau(const uint8_t *book, size_t book_length, const uint
                              uint8_t *out, size_t out_length);
 
 /* Marks a model: `model` is an interpretation of 2,337 bytes, and `pairs` has its "better", four bytes for each element.
-   As above otherwise; the line is one of
+   Otherwise as vuhlaten_mark_tableau; the line is one of
 
        satisfied, elements 2
        refused 18 at 0
@@ -66,9 +66,9 @@ struct vuhlaten_verdict vuhlaten_judge_tableau(const uint8_t *book, size_t book_
 struct vuhlaten_verdict vuhlaten_judge_model(const uint8_t *book, size_t book_length, const uint8_t *model,
                                              size_t model_length, const uint8_t *pairs, size_t pairs_length);
 
-/* The functions of the library ask for a pointer that is not NULL, also where the length is 0. Each call goes through a
-   macro of the same name, which passes another pointer in place of NULL. A call that does not go through a macro, as by a
-   pointer to the function or from another language, must do the same. */
+/* The functions of the library require a pointer that is not NULL, also if the length is 0. Each call goes through a
+   macro of the same name, which passes another pointer in place of NULL. A call that does not go through a macro, such as
+   one by a function pointer or from another language, must do the same. */
 static inline const uint8_t *vuhlaten_bytes(const uint8_t *bytes)
 {
     static const uint8_t none = 0;

@@ -1,5 +1,5 @@
--- What stands in a caller's buffer.
--- LineWritten: the line of a verdict was written, where the buffer has room for every line.
+-- What a call writes into its caller's buffer.
+-- LineWritten: the line of a verdict was written, if the buffer has room for every line.
 -- Assumes nothing.
 use Rattle.std.specs.Prelude.{◌≡◌, ℕ, ◌<◌, ◌≤◌, List, ◌++◌, length, drop}
 use Rattle.verdict.specs.declared.Verdict.{Verdict}

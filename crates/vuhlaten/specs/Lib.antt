@@ -1,4 +1,4 @@
--- what stands in a caller's buffer
+-- what a call writes into its caller's buffer
 pub mod Buffers
 -- a verdict as numbers
 pub mod Outcomes

@@ -10,7 +10,7 @@ use verdict::Verdict;
 use verdict::line::line;
 use verdict::mark::{mark_model, mark_tableau};
 
-// Writes the line of a verdict into a buffer and answers its length, or 0 if the buffer is too short.
+// Writes the line of a verdict into a buffer and returns its length, or 0 if the buffer is too short.
 fn write_line(verdict: Verdict, out: &mut [u8]) -> usize
     ensures { LineWritten verdict out.old out.new result }
 {
@@ -41,7 +41,7 @@ pub extern "C" fn vuhlaten_mark_model(
     write_line(mark_model(book, model, pairs), out)
 }
 
-/// Marks a tableau as above, and answers the verdict as numbers.
+/// Marks a tableau as `vuhlaten_mark_tableau` does, and returns the verdict as numbers.
 #[unsafe(no_mangle)]
 pub extern "C" fn vuhlaten_judge_tableau(book: &[u8], steps: &[u8]) -> Outcome
     ensures { (v : Verdict) × TableauMark (marked_part book.now) (marked_part steps.now) v
@@ -50,7 +50,7 @@ pub extern "C" fn vuhlaten_judge_tableau(book: &[u8], steps: &[u8]) -> Outcome
     mark_tableau(book, steps).into()
 }
 
-/// Marks a model as above, and answers the verdict as numbers.
+/// Marks a model as `vuhlaten_mark_model` does, and returns the verdict as numbers.
 #[unsafe(no_mangle)]
 pub extern "C" fn vuhlaten_judge_model(book: &[u8], model: &[u8], pairs: &[u8]) -> Outcome
     ensures { (v : Verdict)

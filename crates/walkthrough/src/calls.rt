@@ -8,7 +8,7 @@ pub(crate) fn print_refusal<F: Refusal>(rt: &impl Print, fault: &F) -> io::Resul
     println!(rt; "refused {number} at {place}")
 }
 
-// One function a call, since each prints its answer in its own words.
+// One function for each call, since each prints its answer in its own words.
 pub(crate) fn node<F: Refusal + Drop>(
     rt: &impl Print,
     raw: RawNode,

@@ -7,7 +7,7 @@ use orders::pairs::Pairs;
 use orders::ranks::Ranks;
 use std::io;
 
-// Prints the size of an order and its pairs. Loops, since an order is asked by number and each print can fail.
+// Prints the size of an order and its pairs. Loops, since an order is read by number and each print can fail.
 fn print_order<O: Order>(rt: &impl Print, order: &O) -> io::Result<()> {
     println!(rt; "granted, elements {}", order.size())?;
     for x in 0..order.size() {

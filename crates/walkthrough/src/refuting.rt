@@ -80,7 +80,7 @@ impl fmt::Display for Words<Effect> {
     }
 }
 
-// A step, what it did, and how many splits are then pending, where it opened or closed one.
+// A step, what it did, and, if it opened or closed a split, how many splits are then pending.
 fn print_step<P: Print>(rt: &P, taken: TakenStep, pending: usize) -> io::Result<()> {
     let Step { op, a, b } = taken.step;
     print!(rt; "    step {op} {a} {b}: {}", Words(taken.effect))?;

@@ -54,7 +54,7 @@ impl fmt::Display for InWords<'_, Entry> {
     }
 }
 
-// The text of each node, bottom up. (A book is asked by number.)
+// The text of each node, bottom up. (A book is read by number.)
 fn concepts<B: ReadableBook>(heap: Global, book: &B) -> Result<Vec<String>, AllocError> {
     let mut texts = Vec::new(heap);
     for i in 0..book.node_count() {

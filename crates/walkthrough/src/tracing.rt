@@ -23,7 +23,7 @@ struct Recorder {
 impl Watch for Recorder {
     ghost use Rattle.std.specs.Prelude.{◌≡◌, true, [], ◌∷◌, ◌++◌};
 
-    // a record that is complete was complete before, and has this step more
+    // if the record is complete, it was complete before and has this step appended
     ghost told = { λ before taken after. after.complete ≡ true →
         (before.complete ≡ true) × (after.steps.items ≡ before.steps.items ++ taken ∷ []) };
 
@@ -32,14 +32,14 @@ impl Watch for Recorder {
     }
 }
 
-// A tableau that was worked, and what was answered.
+// The trace of a tableau, and the answer.
 #[derive(Drop)]
 pub(crate) struct Worked {
     pub(crate) trace: Vec<TakenStep>,
     pub(crate) answer: Result<Used, RefuteFault>,
 }
 
-// Works a tableau over the book, in three lent lists.
+// Checks a tableau over the book, in three lent lists, and records its trace.
 pub(crate) fn work<B: ReadableBook>(
     heap: Global,
     book: &B,

@@ -1,4 +1,4 @@
-//! Marks the hand-in in the current folder by the library, and prints the line of the verdict.
+//! Marks the hand-in in the current folder with the library, and prints the line of the verdict.
 
 mod vuhlaten;
 
@@ -7,7 +7,7 @@ use std::io::{self, ErrorKind};
 
 use vuhlaten::{Verdict, mark_model, mark_tableau};
 
-/// The bytes of a file, or none if it is missing.
+/// The bytes of a file; empty if it is missing.
 fn read(name: &str) -> io::Result<Option<Vec<u8>>> {
     match fs::read(name) {
         Ok(bytes) => Ok(Some(bytes)),

@@ -1,7 +1,7 @@
 //! The calls of the library, over slices.
 #![allow(unsafe_code)]
 
-// As `crates/vuhlaten/include/vuhlaten.h` has them. A slice is never null.
+// As declared in `crates/vuhlaten/include/vuhlaten.h`. The pointer of a slice is never null.
 unsafe extern "C" {
     fn vuhlaten_judge_tableau(book: *const u8, book_length: usize, steps: *const u8, steps_length: usize) -> Numbers;
 
