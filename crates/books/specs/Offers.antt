@@ -29,31 +29,31 @@ plain_by s (node.Typical c) = false
 plain_by s node.Absent = true
 
 -- the operand of all, some and T contains no T
-abbrev pub node_placed_by : PlainOperands → Node → Bool
-node_placed_by s node.Top = true
-node_placed_by s node.Bottom = true
-node_placed_by s (node.Name a) = true
-node_placed_by s (node.Not c) = true
-node_placed_by s (node.And c d) = true
-node_placed_by s (node.Or c d) = true
-node_placed_by s (node.All r c) = s.plain_b
-node_placed_by s (node.Exists r c) = s.plain_b
-node_placed_by s (node.Typical c) = s.plain_a
-node_placed_by s node.Absent = true
+abbrev pub node_typicality_allowed_by : PlainOperands → Node → Bool
+node_typicality_allowed_by s node.Top = true
+node_typicality_allowed_by s node.Bottom = true
+node_typicality_allowed_by s (node.Name a) = true
+node_typicality_allowed_by s (node.Not c) = true
+node_typicality_allowed_by s (node.And c d) = true
+node_typicality_allowed_by s (node.Or c d) = true
+node_typicality_allowed_by s (node.All r c) = s.plain_b
+node_typicality_allowed_by s (node.Exists r c) = s.plain_b
+node_typicality_allowed_by s (node.Typical c) = s.plain_a
+node_typicality_allowed_by s node.Absent = true
 
 -- The left concept of an inclusion is T(c) or contains no T; the right one contains no T.
-abbrev pub entry_placed_by : Bool → PlainOperands → Entry → Bool
-entry_placed_by typical_a s (entry.Inclusion c d) = (typical_a || s.plain_a) && s.plain_b
-entry_placed_by typical_a s (entry.Fact x c) = true
-entry_placed_by typical_a s (entry.RoleFact r x y) = true
-entry_placed_by typical_a s entry.Absent = true
+abbrev pub entry_typicality_allowed_by : Bool → PlainOperands → Entry → Bool
+entry_typicality_allowed_by typical_a s (entry.Inclusion c d) = (typical_a || s.plain_a) && s.plain_b
+entry_typicality_allowed_by typical_a s (entry.Fact x c) = true
+entry_typicality_allowed_by typical_a s (entry.RoleFact r x y) = true
+entry_typicality_allowed_by typical_a s entry.Absent = true
 
 -- why a node does not fit a book of so many nodes
 abbrev pub node_unfit_by : ℕ → PlainOperands → RawNode → ℕ
 node_unfit_by count s raw =
-    first_unfit (is_node (node_of raw)) (node_within_limits (node_of raw) && node_unused_zero raw) (node_operands_below count (node_of raw)) (node_placed_by s (node_of raw))
+    first_unfit (is_node (node_of raw)) (node_within_limits (node_of raw) && node_unused_zero raw) (node_operands_below count (node_of raw)) (node_typicality_allowed_by s (node_of raw))
 
 -- why an entry does not fit; typical_a: node a is T(c) for some c
 abbrev pub entry_unfit_by : ℕ → Bool → PlainOperands → RawEntry → ℕ
 entry_unfit_by count typical_a s raw =
-    first_unfit (is_entry (entry_of raw)) (entry_within_limits (entry_of raw) && entry_unused_zero raw) (entry_operands_below count (entry_of raw)) (entry_placed_by typical_a s (entry_of raw))
+    first_unfit (is_entry (entry_of raw)) (entry_within_limits (entry_of raw) && entry_unused_zero raw) (entry_operands_below count (entry_of raw)) (entry_typicality_allowed_by typical_a s (entry_of raw))

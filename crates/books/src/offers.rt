@@ -8,7 +8,7 @@ ghost use Rattle.logic.specs.Books.{Book, concept};
 ghost use Rattle.logic.specs.Lawful.{node_within_limits, node_operands_below, node_typicality_allowed, entry_within_limits, entry_operands_below, entry_typicality_allowed};
 ghost use Rattle.logic.specs.Refusals.{node_unfit, node_unused_zero, entry_unfit, entry_unused_zero};
 ghost use Rattle.books.specs.Answers.{Judged, IsPlainnessOf, FirstUnfit};
-ghost use Rattle.books.specs.Offers.{plain_by, node_placed_by, entry_placed_by, node_unfit_by, entry_unfit_by};
+ghost use Rattle.books.specs.Offers.{plain_by, node_typicality_allowed_by, entry_typicality_allowed_by, node_unfit_by, entry_unfit_by};
 
 use crate::faults::Unfit;
 use logic::limits::{INDIVIDUALS, NAMES, ROLES};
@@ -70,7 +70,7 @@ fn node_operands_below(count: u16, node: Node) -> bool
 
 // Whether typicality is in place in a node.
 fn node_typicality_allowed(node: Node, plain_operands: PlainOperands) -> bool
-    ensures { result ≡ node_placed_by plain_operands node }
+    ensures { result ≡ node_typicality_allowed_by plain_operands node }
 {
     let PlainOperands { plain_a, plain_b } = plain_operands;
     match node {
@@ -149,7 +149,7 @@ fn entry_operands_below(count: u16, entry: Entry) -> bool
 
 // Whether typicality is in place in an entry; `typical_a`: its node a is T(c) for some c.
 fn entry_typicality_allowed(entry: Entry, typical_a: bool, plain_operands: PlainOperands) -> bool
-    ensures { result ≡ entry_placed_by typical_a plain_operands entry }
+    ensures { result ≡ entry_typicality_allowed_by typical_a plain_operands entry }
 {
     match entry {
         Entry::Inclusion(_, _) => (typical_a || plain_operands.plain_a) && plain_operands.plain_b,

@@ -5,12 +5,12 @@ use Rattle.std.specs.Result.{IsErrAnd}
 use Rattle.std.proofs.lemmas.List.{length-take, take_all}
 use Rattle.verdict.specs.Marks.{marked_part}
 use Rattle.folders.specs.declared.hand_in.ReadFault.{ReadFault}
-use Rattle.folders.specs.Files.{File, Opened, counted, Files, InFolder}
+use Rattle.folders.specs.Files.{File, OpenedFile, counted, Files, InFolder}
 use Rattle.folders.specs.HandIns.{Unread}
 
 -- an opened file gives the bytes that are known
 pub opened : {R : Type 0} (remaining : R → Option (List ℕ)) (k : Option File) (file : R) (bs : List ℕ) →
-    IfSome k (λ is. Opened remaining is (Some file)) → IfSome (remaining file) (λ all. bs ≡ marked_part all) →
+    IfSome k (λ is. OpenedFile remaining is (Some file)) → IfSome (remaining file) (λ all. bs ≡ marked_part all) →
     IfSome k (λ is. ◌≡◌ {A = File} (Some bs) (option_map marked_part is))
 opened remaining None file bs o h = tt
 opened remaining (Some None) file bs o h = cc o

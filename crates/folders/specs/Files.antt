@@ -1,5 +1,5 @@
 -- The files of a folder that are a hand-in.
--- File: a file, or none. Opened: what opening a file answers. counted: the bytes that count.
+-- File: a file, or none. OpenedFile: what opening a file answers. counted: the bytes that count.
 -- Files, InFolder: the four files of a hand-in, by their names.
 -- Assumes nothing.
 use Rattle.std.specs.Prelude.{◌≡◌, ℕ, List, [], Some, None, IfSome, IsNone, IsSomeAnd, codes}
@@ -11,9 +11,9 @@ abbrev pub File : Type 0
 File = Option (List ℕ)
 
 -- Opening a missing file answers `None`; opening a file answers a reader with its bytes left to read.
-abbrev pub Opened : {R : Type 0} → (R → Option (List ℕ)) → File → Option R → Type 0
-Opened remaining None opened = IsNone opened
-Opened remaining (Some bs) opened = IsSomeAnd opened (λ r. remaining r ≡ Some bs)
+abbrev pub OpenedFile : {R : Type 0} → (R → Option (List ℕ)) → File → Option R → Type 0
+OpenedFile remaining None opened = IsNone opened
+OpenedFile remaining (Some bs) opened = IsSomeAnd opened (λ r. remaining r ≡ Some bs)
 
 -- the bytes of a file that count; a missing file counts as empty
 abbrev pub counted : File → List ℕ

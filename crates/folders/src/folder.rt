@@ -3,7 +3,7 @@ ghost use Rattle.std.specs.Prelude.{◌≡◌, ◌≢◌, ℕ, List, Some, None,
 ghost use Rattle.std.specs.Option.{option_map};
 ghost use Rattle.std.specs.declared.option.Option.{Option};
 ghost use Rattle.verdict.specs.Marks.{marked_part};
-ghost use Rattle.folders.specs.Files.{File, Opened};
+ghost use Rattle.folders.specs.Files.{File, OpenedFile};
 
 use std::alloc::Global;
 use std::io;
@@ -22,7 +22,7 @@ pub trait Folder {
     /// cannot be opened.
     fn open(&self, name: &str) -> io::Result<Option<Self::File>>
         ensures opened { IfOk result (λ file.
-            IfSome (known self.now name.now) (λ is. Opened Self.File.remaining is file)) }
+            IfSome (known self.now name.now) (λ is. OpenedFile Self.File.remaining is file)) }
         ensures failed { OnErr result (known self.now name.now ≢ Some None) };
 }
 

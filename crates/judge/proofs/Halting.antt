@@ -22,7 +22,7 @@ use Rattle.judge.specs.Progress.{Room, Underway}
 use Rattle.judge.specs.Reasons.{StepReason, StepsReason}
 use Rattle.judge.specs.WorkingLists.{PendingSplit, second_branch, split_record, WorkState, work_state, HoldsState, SixteenBitCounts, HoldsSomeState, state_after, ReachesState}
 use Rattle.judge.specs.Taking.{TakeAnswer}
-use Rattle.judge.specs.Traces.{pending_after, one_more, ToldTrace}
+use Rattle.judge.specs.Traces.{pending_after, one_more, SawTrace}
 use Rattle.judge.proofs.Agreeing.{does}
 use Rattle.judge.proofs.Decoding.{steps_length, steps_more, steps-take, steps_at}
 use Rattle.judge.proofs.Growing.{few_underway}
@@ -108,16 +108,16 @@ module _ {bk : Book} {ls : Lengths} {bs : List ℕ} {i : ℕ} {s : Step} {l : Li
         t.effect ps t.at b.stands.2 k.0 (subst (λ v. ReachesState v (HoldsState m) (state_after t.effect br ps) (Ok t.at)) b.long k.1) in
         subst (λ v. Stands bk ls v (HoldsState m) t.at) (ap (λ v. first_steps i bs ++ v ∷ []) b.is ∙ sym (steps_more bs i)) after-it
 
-    -- and told
-    pub tells_on : {W : Type 0} (told : W → TakenStep → W → Type 0) (first before after-it : W) (p : ℕ) → ToldTrace told bk ls (first_steps i bs) first before → MatchOption t.at (p ≡ 0) (λ n. p ≡ n.splits) → told before (record { step = s; effect = t.effect; pending = p }) after-it → ToldTrace told bk ls (first_steps (i + 1) bs) first after-it
-    tells_on told first before after-it p d c h =
+    -- and what a watcher was told
+    pub sees_on : {W : Type 0} (transition : W → TakenStep → W → Type 0) (first before after-it : W) (p : ℕ) → SawTrace transition bk ls (first_steps i bs) first before → MatchOption t.at (p ≡ 0) (λ n. p ≡ n.splits) → transition before (record { step = s; effect = t.effect; pending = p }) after-it → SawTrace transition bk ls (first_steps (i + 1) bs) first after-it
+    sees_on transition first before after-it p d c h =
         let k = took (work_state br ps) b.stands.3 in
         let n = pending_counted (lengths_of l) m t.effect br ps t.at p k.1 c in
         let stored : TakenStep = record { step = s; effect = t.effect; pending = pending_after t.effect (length (map second_branch ps)) } in
-        subst (λ v. ToldTrace told bk ls v first after-it) (ap (λ v. first_steps i bs ++ v ∷ []) b.is ∙ sym (steps_more bs i)) (
+        subst (λ v. SawTrace transition bk ls v first after-it) (ap (λ v. first_steps i bs ++ v ∷ []) b.is ∙ sym (steps_more bs i)) (
           d.0 ++ stored ∷ [],
           one_more s t.effect d.1 b.stands.2 (does bk br s t.effect k.0),
-          FoldsTo-push told first d.0 before stored after-it d.2 (subst (λ q. told before (record { step = s; effect = t.effect; pending = q }) after-it) n h),
+          FoldsTo-push transition first d.0 before stored after-it d.2 (subst (λ q. transition before (record { step = s; effect = t.effect; pending = q }) after-it) n h),
         )
 
   -- it is refused

@@ -19,14 +19,14 @@ use Rattle.judge.proofs.ShowFill.{sets_everywhere}
 
 module _ (bk : Book) (i : Interpretation) (list : List ℕ) where
   -- what a test of entry k tells
-  abbrev pub Told : Bool → ℕ → Type 0
-  Told test k = IsLiveAndFalse i list (stored_at bk k) test
+  abbrev pub IsFailingAt : Bool → ℕ → Type 0
+  IsFailingAt test k = IsLiveAndFalse i list (stored_at bk k) test
 
   abbrev pub TrueAt : ℕ → Type 0
   TrueAt k = TrueIfLive i list (stored_at bk k)
 
   -- the first entry that the test picks out is the first that is live and not true
-  pub lowest : (n : ℕ) (r : Option ℕ) → n ≡ length bk.entries → MatchOption r ((k : ℕ) → 0 ≤ k → k < n → Told false k) (λ j. (0 ≤ j) × (j < n) × Told true j × ((k : ℕ) → 0 ≤ k → k < j → Told false k)) → FirstWithout TrueAt (length bk.entries) r
+  pub lowest : (n : ℕ) (r : Option ℕ) → n ≡ length bk.entries → MatchOption r ((k : ℕ) → 0 ≤ k → k < n → IsFailingAt false k) (λ j. (0 ≤ j) × (j < n) × IsFailingAt true j × ((k : ℕ) → 0 ≤ k → k < j → IsFailingAt false k)) → FirstWithout TrueAt (length bk.entries) r
   lowest n None e none = λ k l. none k (omega arith) (omega arith)
   lowest n (Some k) e found = (omega (arith, found.1), found.2, λ j l. found.3 j (omega arith) l)
 

@@ -19,14 +19,14 @@ use Rattle.judge.specs.Reasons.{WellNamed, NoRoom, StepReason}
 use Rattle.judge.proofs.Agreeing.{does, closes_decides, splits_decides, extends_decides}
 
 -- a test failed before any rule is tried, or none did
-abbrev Told : Bool → Bool → Bool → Bool → Result Effect StepFault → Type 0
-Told bad never away dead (Ok e) = (bad ≡ false) × (never ≡ false) × (away ≡ false) × (dead ≡ false)
-Told bad never away dead (Err Malformed) = bad ≡ true
-Told bad never away dead (Err NeverEntered) = (bad ≡ false) × (never ≡ true)
-Told bad never away dead (Err NotThere) = (bad ≡ false) × (never ≡ false) × (away ≡ true)
-Told bad never away dead (Err Struck) = (bad ≡ false) × (never ≡ false) × (away ≡ false) × (dead ≡ true)
-Told bad never away dead (Err Misfit) = (bad ≡ false) × (never ≡ false) × (away ≡ false) × (dead ≡ false)
-Told bad never away dead (Err Full) = ⊥
+abbrev FirstFailing : Bool → Bool → Bool → Bool → Result Effect StepFault → Type 0
+FirstFailing bad never away dead (Ok e) = (bad ≡ false) × (never ≡ false) × (away ≡ false) × (dead ≡ false)
+FirstFailing bad never away dead (Err Malformed) = bad ≡ true
+FirstFailing bad never away dead (Err NeverEntered) = (bad ≡ false) × (never ≡ true)
+FirstFailing bad never away dead (Err NotThere) = (bad ≡ false) × (never ≡ false) × (away ≡ true)
+FirstFailing bad never away dead (Err Struck) = (bad ≡ false) × (never ≡ false) × (away ≡ false) × (dead ≡ true)
+FirstFailing bad never away dead (Err Misfit) = (bad ≡ false) × (never ≡ false) × (away ≡ false) × (dead ≡ false)
+FirstFailing bad never away dead (Err Full) = ⊥
 
 -- the tests in their order: p an unused operand, q an entry is named, n never entered, t what operand b
 -- names is there, h the constraint is there, l the entry is live
@@ -35,19 +35,19 @@ in_order p q n t h l x y =
     cond p (Err Malformed)
     (cond q (cond n (Err NeverEntered) (cond t (cond l (ok_or x Misfit) (Err Struck)) (Err NotThere))) (cond (h && t) (ok_or y Misfit) (Err NotThere)))
 
-fitted : (x : Option Effect) → Told false false false false (ok_or x Misfit)
+fitted : (x : Option Effect) → FirstFailing false false false false (ok_or x Misfit)
 fitted None = (refl, refl, refl, refl)
 fitted (Some e) = (refl, refl, refl, refl)
 
-told : (p q n t h l : Bool) (x y : Option Effect) → Told p (q && n) (not ((q || h) && t)) (q && not l) (in_order p q n t h l x y)
-told true q n t h l x y = refl
-told false true true t h l x y = (refl, refl)
-told false true false false h l x y = (refl, refl, refl)
-told false true false true h false x y = (refl, refl, refl, refl)
-told false true false true h true x y = fitted x
-told false false n t false l x y = (refl, refl, refl)
-told false false n false true l x y = (refl, refl, refl)
-told false false n true true l x y = fitted y
+first_failing : (p q n t h l : Bool) (x y : Option Effect) → FirstFailing p (q && n) (not ((q || h) && t)) (q && not l) (in_order p q n t h l x y)
+first_failing true q n t h l x y = refl
+first_failing false true true t h l x y = (refl, refl)
+first_failing false true false false h l x y = (refl, refl, refl)
+first_failing false true false true h false x y = (refl, refl, refl, refl)
+first_failing false true false true h true x y = fitted x
+first_failing false false n t false l x y = (refl, refl, refl)
+first_failing false false n false true l x y = (refl, refl, refl)
+first_failing false false n true true l x y = fitted y
 
 -- the first test that fails
 abbrev first_failed : Bool → Bool → Bool → Bool → Option StepFault
@@ -67,14 +67,14 @@ failed false false n true true l x y f e = let z : ◌≡◌ {A = ℕ} 0 1 = cc 
 module _ (bk : Book) (br : Branch) (s : Step) where
   -- the four tests
   abbrev Sorted : Result Effect StepFault → Type 0
-  Sorted r = Told (malformed s) (never_entered bk s) (lacks_operand br s) (names_struck bk s) r
+  Sorted r = FirstFailing (malformed s) (never_entered bk s) (lacks_operand br s) (names_struck bk s) r
 
-  sorted_op : (o : Option Op) → Told (test_op true (λ p. unused_not_zero (operand_of p) s.b) o) (test_op false (λ p. names_entry p && leb (length bk.entries) s.a) o) (test_op false (λ p. not (has_operands p br s)) o) (test_op false (λ p. names_entry p && not (stored_at bk s.a).live) o) (by_known_op bk br s o)
+  sorted_op : (o : Option Op) → FirstFailing (test_op true (λ p. unused_not_zero (operand_of p) s.b) o) (test_op false (λ p. names_entry p && leb (length bk.entries) s.a) o) (test_op false (λ p. not (has_operands p br s)) o) (test_op false (λ p. names_entry p && not (stored_at bk s.a).live) o) (by_known_op bk br s o)
   unfolding by_entry by_constraint
   sorted_op None = refl
   sorted_op (Some o) =
       let c = get_or br.constraints s.a no_constraint in
-      told (unused_not_zero (operand_of o) s.b) (names_entry o) (leb (length bk.entries) s.a) (has_operand (operand_of o) br s.b) (ltb s.a (length br.constraints)) (stored_at bk s.a).live
+      first_failing (unused_not_zero (operand_of o) s.b) (names_entry o) (leb (length bk.entries) s.a) (has_operand (operand_of o) br s.b) (ltb s.a (length br.constraints)) (stored_at bk s.a).live
       (entry_effect (stored_at bk s.a).entry o s.b) (constraint_effect o c (node_at bk c.node) (operand_records (operand_of o) br s.b).0 (operand_records (operand_of o) br s.b).1)
 
   sorted : (r : Result Effect StepFault) → step_effect bk br s ≡ r → Sorted r

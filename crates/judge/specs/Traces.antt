@@ -1,6 +1,6 @@
 -- The trace of a tableau: the steps that are taken, and what each does.
 -- Does: the effect of a step, by the rules of the calculus. pending_after: how many splits are pending
--- afterwards. Trace: the trace of steps. ToldTrace: a watcher was told it. steps_taken: how many steps are
+-- afterwards. Trace: the trace of steps. SawTrace: a watcher was told it. steps_taken: how many steps are
 -- taken. Watched: what is promised of a watcher.
 -- Assumes nothing.
 use Rattle.std.specs.Prelude.{ℕ, suc, ◌-◌, List, [], ◌∷◌, ◌++◌, length, take, Ok, Err, Result}
@@ -54,14 +54,14 @@ steps_taken ss (Err (AtStep i f)) = i
 steps_taken ss (Err (AfterClosing i)) = i
 steps_taken ss (Err (NotClosed n)) = length ss
 
--- A watcher was told the trace of the steps, in order, and nothing else. `told` says what it
--- becomes when it is told one step.
-abbrev pub ToldTrace : {W : Type 0} → (W → TakenStep → W → Type 0) →
+-- A watcher was told the trace of the steps, in order, and nothing else. `transition` says what it
+-- becomes when it is told of one step.
+abbrev pub SawTrace : {W : Type 0} → (W → TakenStep → W → Type 0) →
     Book → Lengths → List Step → W → W → Type 0
-ToldTrace told bk ls ss before after =
-    (trace : List TakenStep) × Trace bk ls ss trace × FoldsTo told before trace after
+SawTrace transition bk ls ss before after =
+    (trace : List TakenStep) × Trace bk ls ss trace × FoldsTo transition before trace after
 
 -- it was told the trace of the steps that are taken
 abbrev pub Watched : {W : Type 0} → (W → TakenStep → W → Type 0) →
     Book → Lengths → List Step → W → W → Result Used RefuteFault → Type 0
-Watched told bk ls ss before after r = ToldTrace told bk ls (take (steps_taken ss r) ss) before after
+Watched transition bk ls ss before after r = SawTrace transition bk ls (take (steps_taken ss r) ss) before after

@@ -27,7 +27,7 @@ fn work<B: ReadableBook, W: Watch>(
     ensures same { SameLists lists.old lists.new }
     ensures worked { WorkAnswer (B.meaning book.now) (lengths_of lists.old)
         (decoded bytes.now) result }
-    ensures watched { Watched W.told (B.meaning book.now) (lengths_of lists.old) (decoded bytes.now)
+    ensures watched { Watched W.transition (B.meaning book.now) (lengths_of lists.old) (decoded bytes.now)
         watch.old watch.new result }
 {
     let mut used = Used::unmarked();
@@ -71,7 +71,7 @@ pub fn refute_watched<B: ReadableBook, W: Watch>(
     ensures number_and_place { IfErr result (HasNumberAndPlace bytes.now) }
     ensures blank { AllBlank (lengths constraints.old edges.old splits.old)
         constraints.new edges.new splits.new }
-    ensures watched { Watched W.told (B.ReadableBook.meaning book.now)
+    ensures watched { Watched W.transition (B.ReadableBook.meaning book.now)
         (lengths constraints.old edges.old splits.old) (decoded bytes.now)
         watch.old watch.new result }
 {

@@ -12,24 +12,24 @@ pub struct TakenStep {
     pub pending: usize,
 }
 
-// A watcher: it is told each step that is taken. A trait, since a closure would need a `requires` on the
+// A watcher: it is told of each step that is taken. A trait, since a closure would need a `requires` on the
 // public call that takes it.
 pub trait Watch {
     ghost use Rattle.judge.specs.declared.watch.TakenStep.{TakenStep};
 
-    // what a watcher becomes when it is told a step: before, step, after
-    ghost told: { Self → TakenStep → Self → Type 0 };
+    // what a watcher becomes when it is told of a step: before, step, after
+    ghost transition: { Self → TakenStep → Self → Type 0 };
 
     fn taken(&mut self, taken: TakenStep)
-        ensures { told self.old taken self.new };
+        ensures { transition self.old taken self.new };
 }
 
-// A watcher that ignores what it is told.
+// A watcher that ignores what it is told of.
 #[derive(Drop)]
 pub(crate) struct Unwatched;
 
 impl Watch for Unwatched {
-    ghost told = { λ _ _ _. Unit {0} };
+    ghost transition = { λ _ _ _. Unit {0} };
 
     fn taken(&mut self, _taken: TakenStep) {}
 }

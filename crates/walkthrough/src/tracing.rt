@@ -24,7 +24,7 @@ impl Watch for Recorder {
     ghost use Rattle.std.specs.Prelude.{◌≡◌, true, [], ◌∷◌, ◌++◌};
 
     // if the record is complete, it was complete before and has this step appended
-    ghost told = { λ before taken after. after.complete ≡ true →
+    ghost transition = { λ before taken after. after.complete ≡ true →
         (before.complete ≡ true) × (after.steps.items ≡ before.steps.items ++ taken ∷ []) };
 
     fn taken(&mut self, taken: TakenStep) {

@@ -6,12 +6,12 @@ use Rattle.judge.specs.Progress.{begun, Finished, Underway}
 use Rattle.judge.specs.Steps.{first_steps, decoded}
 use Rattle.judge.specs.Blanks.{lengths_of}
 use Rattle.judge.specs.WorkingLists.{second_branch, WorkState, HoldsState}
-use Rattle.judge.specs.Traces.{none, ToldTrace}
+use Rattle.judge.specs.Traces.{none, SawTrace}
 use Rattle.judge.specs.declared.faults.RefuteFault.TheVariants.{AtStep}
 use Rattle.judge.specs.Reasons.{StepsReason}
 use Rattle.judge.specs.Taking.{TakeAnswer}
 use Rattle.judge.proofs.Decoding.{steps_length, steps-take, Arrived, arrived, chunks_end}
-use Rattle.judge.proofs.Halting.{shown_start, same_lengths, same_again, Before, holds_some_state, is_small, goes_on, tells_on, breaks_off}
+use Rattle.judge.proofs.Halting.{shown_start, same_lengths, same_again, Before, holds_some_state, is_small, goes_on, sees_on, breaks_off}
 use Rattle.judge.proofs.Marks.{marks_next}
 use Rattle.judge.proofs.Standing.{Stands}
 use Rattle.judge.proofs.refute.work.Given as given
@@ -31,7 +31,7 @@ loop-i-init g c =
       rest = search rules;
       marks = subst (λ n. c.unmarked-used.result.marks ≡ marks_of (first_steps n bs)) (sym none_yet) c.unmarked-used.ensures;
       same = search rules;
-      told = subst (λ n. ToldTrace g.W.Watch.told bk (lengths_of l) (first_steps n bs) w w) (sym none_yet) ([], none, refl);
+      transition = subst (λ n. SawTrace g.W.Watch.transition bk (lengths_of l) (first_steps n bs) w w) (sym none_yet) ([], none, refl);
       stands = subst (λ n. Stands bk (lengths_of l) (first_steps n bs) (HoldsState l) (Some c.start.result)) (sym none_yet) (start, [], begun, shown_start l c.start.result c.start.ensures);
     }
 
@@ -60,10 +60,10 @@ front g c =
     ∙ steps-take bs c.loop-i.i-iterator.count (length bs / 5) (omega (arith, (came g c).room))
 
 -- a watcher was told them
-told_front : (g : given.Over) (c : In-Some g) → ToldTrace g.W.Watch.told (g.B.ReadableBook.meaning c.args.book.now) (lengths_of c.args.lists.now) (take c.in-Some.i (decoded c.args.bytes.now)) c.args.watch.now c.loop-i.watch
-told_front g c =
-    subst (λ ss. ToldTrace g.W.Watch.told (g.B.ReadableBook.meaning c.args.book.now) (lengths_of c.args.lists.now) ss c.args.watch.now c.loop-i.watch)
-    (sym (front g c)) c.loop-i.invariant.told
+saw_front : (g : given.Over) (c : In-Some g) → SawTrace g.W.Watch.transition (g.B.ReadableBook.meaning c.args.book.now) (lengths_of c.args.lists.now) (take c.in-Some.i (decoded c.args.bytes.now)) c.args.watch.now c.loop-i.watch
+saw_front g c =
+    subst (λ ss. SawTrace g.W.Watch.transition (g.B.ReadableBook.meaning c.args.book.now) (lengths_of c.args.lists.now) ss c.args.watch.now c.loop-i.watch)
+    (sym (front g c)) c.loop-i.invariant.transition
 
 pub returns-in_default-clause-worked : goal.returns-in_default-clause-worked
 returns-in_default-clause-worked g c =
@@ -77,7 +77,7 @@ returns-in_default-clause-worked g c =
     )
 
 pub returns-in_default-clause-watched : goal.returns-in_default-clause-watched
-returns-in_default-clause-watched g c = told_front g (goal.at.returns-in_default-clause-watched g c).In-Some
+returns-in_default-clause-watched g c = saw_front g (goal.at.returns-in_default-clause-watched g c).In-Some
 
 pub take-requires : goal.take-requires
 take-requires g c =
@@ -104,7 +104,7 @@ pub returns-in_err-taken-clause-watched : goal.returns-in_err-taken-clause-watch
 returns-in_err-taken-clause-watched g c =
     let refused = mapped_err c.take.result c.map_err.result c.in_err-taken.field-0.0 _ c.map_err.ensures.cases c.in_err-taken.was in
     let fault : c.from_residual.result ≡ Err (AtStep c.in-Some.i refused.0) = search rules in
-    rw fault (told_front g (goal.at.returns-in_err-taken-clause-watched g c).In-Some)
+    rw fault (saw_front g (goal.at.returns-in_err-taken-clause-watched g c).In-Some)
 
 pub loop-i-preserved : goal.loop-i-preserved
 loop-i-preserved g c =
@@ -127,8 +127,8 @@ loop-i-preserved g c =
       rest = here.behind ∙ ap (λ k. drop (5 * k) bs) (sym next);
       marks = subst (λ k. c.note.new.self.marks ≡ marks_of (first_steps k bs)) (sym next) (marks_next bs l.i-iterator.count c.step_of-step.result l.used.marks c.note.new.self.marks b.is l.invariant.marks c.note.ensures);
       same = same;
-      told = subst (λ k. ToldTrace g.W.Watch.told bk ls (first_steps k bs) w c.taken.new.self) (sym next)
-          (tells_on b m c.in_ok-taken.taken took g.W.Watch.told w l.watch c.taken.new.self c.pending.result l.invariant.told c.pending.ensures c.taken.ensures);
+      transition = subst (λ k. SawTrace g.W.Watch.transition bk ls (first_steps k bs) w c.taken.new.self) (sym next)
+          (sees_on b m c.in_ok-taken.taken took g.W.Watch.transition w l.watch c.taken.new.self c.pending.result l.invariant.transition c.pending.ensures c.taken.ensures);
       stands = subst (λ k. Stands bk ls (first_steps k bs) (HoldsState m) c.in_ok-taken.taken.at) (sym next)
           (goes_on b m c.in_ok-taken.taken took (same_lengths c.args.lists.now m same));
     }

@@ -3,7 +3,7 @@ use Rattle.judge.specs.Members.{marks_of}
 use Rattle.judge.specs.Steps.{first_steps}
 use Rattle.judge.specs.Blanks.{SameLists, lengths_of}
 use Rattle.judge.specs.WorkingLists.{HoldsState}
-use Rattle.judge.specs.Traces.{ToldTrace}
+use Rattle.judge.specs.Traces.{SawTrace}
 use Rattle.judge.proofs.Standing.{Stands}
 use Rattle.judge.proofs.refute.work.Given as goal
 
@@ -16,6 +16,6 @@ invariant-loop-i g l =
       rest : l.i-iterator.iter.rest.now ≡ drop (5 * l.i-iterator.count) l.bytes;
       marks : l.used.marks ≡ marks_of done;
       same : SameLists l.initial.lists l.lists;
-      told : ToldTrace g.W.Watch.told (g.B.ReadableBook.meaning l.book) (lengths_of l.initial.lists) done l.initial.watch l.watch;
+      transition : SawTrace g.W.Watch.transition (g.B.ReadableBook.meaning l.book) (lengths_of l.initial.lists) done l.initial.watch l.watch;
       stands : Stands (g.B.ReadableBook.meaning l.book) (lengths_of l.initial.lists) done (HoldsState l.lists) l.open;
     }

@@ -9,10 +9,10 @@ use Rattle.walkthrough.specs.declared.tracing.Recorder.{Recorder}
 use Rattle.walkthrough.proofs.tracing.work.Goals as goal
 
 -- what is told one after the other stands behind what was kept
-kept : {W : Type 0} (told : W → TakenStep → W → Type 0) (complete : W → Bool) (items : W → List TakenStep) → ((p q : W) (t : TakenStep) → told p t q → complete q ≡ true → (complete p ≡ true) × (items q ≡ items p ++ t ∷ [])) → (ts : List TakenStep) (p q : W) → FoldsTo told p ts q → complete q ≡ true → (complete p ≡ true) × (items q ≡ items p ++ ts)
-kept told complete items one [] p q e h = (ap complete e ∙ h, sym (append-nil (items p) ∙ ap items e))
-kept told complete items one (t ∷ ts) p q w h =
-    let rest = kept told complete items one ts w.0 q w.2 h in
+kept : {W : Type 0} (transition : W → TakenStep → W → Type 0) (complete : W → Bool) (items : W → List TakenStep) → ((p q : W) (t : TakenStep) → transition p t q → complete q ≡ true → (complete p ≡ true) × (items q ≡ items p ++ t ∷ [])) → (ts : List TakenStep) (p q : W) → FoldsTo transition p ts q → complete q ≡ true → (complete p ≡ true) × (items q ≡ items p ++ ts)
+kept transition complete items one [] p q e h = (ap complete e ∙ h, sym (append-nil (items p) ∙ ap items e))
+kept transition complete items one (t ∷ ts) p q w h =
+    let rest = kept transition complete items one ts w.0 q w.2 h in
     let first = one p w.0 t w.1 rest.0 in
     (first.0, rest.1 ∙ ap (λ v. v ++ ts) first.1 ∙ append_assoc (items p) (t ∷ []) ts)
 
