@@ -1,5 +1,5 @@
 -- What the records of a journal mean.
--- recorded, replay: the book after one record and after a list of records.
+-- record_limit: how many records a journal has at most. recorded, replay: the book after one record and after a list of records.
 -- recorded_nodes: the nodes of the records. struck_count: how many entries are struck.
 -- Consistent: records, their number and both counts agree.
 -- Assumes nothing.
@@ -14,6 +14,10 @@ use Rattle.books.specs.declared.marked.MarkedNode.{MarkedNode}
 use Rattle.books.specs.declared.journal_record.Record.{Record}
 use Rattle.books.specs.declared.journal_record.Record.TheVariants as records
 use Rattle.books.specs.Marks.{marks_of_nodes}
+
+-- a record for each node, one for each entry, and one for each entry that is struck
+abbrev pub record_limit : ℕ
+record_limit = 1024
 
 -- the book after one record
 abbrev pub recorded : Book → Record → Book

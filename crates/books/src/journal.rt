@@ -2,10 +2,11 @@
 ghost use Rattle.std.specs.Prelude.{◌≡◌, ◌+◌, ◌<◌, ◌≤◌, [], ◌∷◌, ◌++◌, length, if◌then◌else◌, vec_len, vec_capacity, nat_eq, slice_index_or};
 ghost use Rattle.logic.specs.Concepts.{plain_marks};
 ghost use Rattle.logic.specs.Books.{Book, empty, stored_at, struck};
+ghost use Rattle.logic.specs.Bounds.{node_limit, entry_limit};
 ghost use Rattle.logic.specs.Lawful.{Lawful};
 ghost use Rattle.logic.proofs.Deciding.{lawful_known};
 ghost use Rattle.books.specs.Marks.{marks_of_nodes, no_node};
-ghost use Rattle.books.specs.Replay.{recorded, replay, recorded_nodes, struck_count, Consistent};
+ghost use Rattle.books.specs.Replay.{recorded, replay, recorded_nodes, struck_count, Consistent, record_limit};
 
 use crate::book::{EditableBook, ReadableBook};
 use crate::entries::taken;
@@ -26,12 +27,12 @@ pub struct Journal {
     records: Vec<Record>,
     nodes: u16,
     entries: u16,
-    ghost room: { 1024 ≤ vec_capacity records },
+    ghost room: { record_limit ≤ vec_capacity records },
     ghost counted_nodes: { nodes ≡ length (replay empty records.items).nodes },
     ghost counted_entries: { entries ≡ length (replay empty records.items).entries },
     ghost counted: { vec_len records ≡ nodes + entries + struck_count (replay empty records.items).entries },
-    ghost few_nodes: { nodes ≤ 512 },
-    ghost few_entries: { entries ≤ 256 },
+    ghost few_nodes: { nodes ≤ node_limit },
+    ghost few_entries: { entries ≤ entry_limit },
     ghost marked: { marks_of_nodes (recorded_nodes records.items) ≡ plain_marks (replay empty records.items).nodes },
     ghost lawful: { ∥ Lawful (replay empty records.items) ∥₁ },
 }
@@ -72,7 +73,7 @@ fn after_strike(stored: StoredEntry, j: u16, i: u16) -> StoredEntry
 
 // Entry i and the count of entries, after one more record.
 fn after_record(stored: StoredEntry, seen: u16, record: Record, i: u16) -> (StoredEntry, u16)
-    requires { seen < 1024 }
+    requires { seen < RECORDS }
     ensures reads { (bk : Book) → stored ≡ stored_at bk i → seen ≡ length bk.entries
         → (result.0 ≡ stored_at (recorded bk «record») i)
         × (result.1 ≡ length (recorded bk «record»).entries) }
@@ -90,7 +91,7 @@ fn after_record(stored: StoredEntry, seen: u16, record: Record, i: u16) -> (Stor
 
 // Entry i of the records.
 fn stored_at(records: &[Record], i: u16) -> StoredEntry
-    requires { length records.now ≤ 1024 }
+    requires { length records.now ≤ RECORDS }
     ensures { result ≡ stored_at (replay empty records.now) i }
 {
     // a loop, whose invariant says that `seen` stays small

@@ -1,6 +1,7 @@
 // An editable book that keeps each record in a slot of its own, each entry with its live mark.
 ghost use Rattle.std.specs.Prelude.{◌≡◌, ◌≤◌, vec_len, vec_capacity};
 ghost use Rattle.logic.specs.Concepts.{plain_marks};
+ghost use Rattle.logic.specs.Bounds.{node_limit, entry_limit};
 ghost use Rattle.logic.specs.Lawful.{Lawful};
 ghost use Rattle.books.specs.Marks.{nodes_of, marks_of_nodes};
 ghost use Rattle.logic.proofs.Deciding.{lawful_known};
@@ -19,10 +20,10 @@ use std::alloc::{AllocError, Global};
 pub struct SlotTable {
     nodes: Vec<MarkedNode>,
     entries: Vec<StoredEntry>,
-    ghost node_room: { 512 ≤ vec_capacity nodes },
-    ghost entry_room: { 256 ≤ vec_capacity entries },
-    ghost few_nodes: { vec_len nodes ≤ 512 },
-    ghost few_entries: { vec_len entries ≤ 256 },
+    ghost node_room: { node_limit ≤ vec_capacity nodes },
+    ghost entry_room: { entry_limit ≤ vec_capacity entries },
+    ghost few_nodes: { vec_len nodes ≤ node_limit },
+    ghost few_entries: { vec_len entries ≤ entry_limit },
     ghost marked: { marks_of_nodes nodes.items ≡ plain_marks (nodes_of nodes.items) },
     ghost lawful: { ∥ Lawful (record { nodes = nodes_of nodes.items; entries = entries.items }) ∥₁ },
 }

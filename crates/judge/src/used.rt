@@ -25,7 +25,7 @@ impl Used {
 
     // The same; the contract speaks of the marks.
     pub(crate) fn unmarked() -> Used
-        ensures { result.marks ≡ replicate 256 false }
+        ensures { result.marks ≡ replicate MARKS false }
     {
         Used {
             marks: [false; MARKS],

@@ -39,7 +39,7 @@ pub(crate) struct Counts {
 impl Counts {
     // The counts at the start: the individuals alone.
     pub(crate) fn start() -> Counts
-        ensures { result ≡ record { constraints = 0; edges = 0; splits = 0; labels = 32 } }
+        ensures { result ≡ record { constraints = 0; edges = 0; splits = 0; labels = INDIVIDUALS } }
     {
         Counts {
             constraints: 0,

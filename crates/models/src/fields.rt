@@ -30,9 +30,9 @@ fn successors_within(n: u8, x: usize, set: u32) -> bool
 }
 
 // The lowest element whose successors in the row of a role are bad. Past the end of a row the sets are empty.
-fn first_bad_row(n: u8, row: &[u32; 32]) -> Option<usize>
-    ensures lowest { FirstWithout (λ x. SuccessorsWithin n x (slice_index row.now x)) 32 result }
-    ensures past { (x : ℕ) → 32 ≤ x → slice_index row.now x ≡ 0 }
+fn first_bad_row(n: u8, row: &[u32; ELEMENTS]) -> Option<usize>
+    ensures lowest { FirstWithout (λ x. SuccessorsWithin n x (slice_index row.now x)) ELEMENTS result }
+    ensures past { (x : ℕ) → ELEMENTS ≤ x → slice_index row.now x ≡ 0 }
 {
     row.iter()
         .enumerate()
@@ -49,7 +49,7 @@ impl Tables {
             names: from_fn(|a| u32_at(bytes, name_place(a))),
             roles: from_fn(
                 |r|
-                    requires { r < 16 }
+                    requires { r < ROLES }
                     ensures { Tabulates ((interpretation_of bytes.entry.now).successors r) result }
                 { from_fn(|x| u32_at(bytes, role_place(r, x))) },
             ),
@@ -59,14 +59,14 @@ impl Tables {
 
     // The lowest name whose set has an element from n on.
     fn first_name(&self) -> Option<usize>
-        ensures { FirstWithout (λ a. Good (by_tables self.now) (name a)) 64 result }
+        ensures { FirstWithout (λ a. Good (by_tables self.now) (name a)) NAMES result }
     {
         self.names.iter().position(|set| !within(*set, self.size))
     }
 
     // The lowest individual whose element is not below n.
     fn first_individual(&self) -> Option<usize>
-        ensures { FirstWithout (λ a. Good (by_tables self.now) (individual a)) 32 result }
+        ensures { FirstWithout (λ a. Good (by_tables self.now) (individual a)) INDIVIDUALS result }
     {
         self.individuals.iter().position(|x| *x >= self.size)
     }

@@ -11,6 +11,11 @@ pub(crate) const ENTRY: usize = 7;
 // The trailer: both counts, of 16 bits, and a distance of 32.
 pub(crate) const TRAILER: usize = 8;
 
+// Where the count of entries and the distance begin in the trailer, counted from the end of the bytes.
+pub(crate) const ENTRY_COUNT: usize = 6;
+
+pub(crate) const DISTANCE: usize = 4;
+
 // Added to the kind of a struck entry.
 pub(crate) const STRUCK: u8 = 16;
 

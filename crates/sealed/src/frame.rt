@@ -1,10 +1,11 @@
 // Bytes with the counts of the records in them, which end right before a trailer.
 ghost use Rattle.std.specs.Prelude.{◌≡◌, ◌+◌, ◌-◌, ◌*◌, ◌<◌, ◌≤◌, false, ◌&&◌, length, MatchOption, ◌==◌, nat_le};
-ghost use Rattle.sealed.specs.Writing.{records_length};
+ghost use Rattle.logic.specs.Bounds.{node_limit, entry_limit};
+ghost use Rattle.sealed.specs.Writing.{records_length, trailer_size};
 ghost use Rattle.sealed.specs.Reading.{has_trailer};
 
 use crate::bytes::{raw_node_at, stored_at};
-use crate::counts::{Counts, ENTRY, NODE, TRAILER};
+use crate::counts::{Counts, DISTANCE, ENTRY, ENTRY_COUNT, NODE, TRAILER};
 use logic::bytes::{u16_at, u32_at};
 use logic::limits::{ENTRIES, NODES};
 use logic::records::{NO_STORED_ENTRY, Node, StoredEntry};
@@ -14,18 +15,18 @@ use logic::records::{NO_STORED_ENTRY, Node, StoredEntry};
 pub(crate) struct Frame<'a> {
     pub bytes: &'a [u8],
     pub counts: Counts,
-    ghost few_nodes: { counts.nodes ≤ 512 },
-    ghost few_entries: { counts.entries ≤ 256 },
-    ghost fits: { records_length counts.nodes counts.entries ≤ length bytes.now - 8 },
+    ghost few_nodes: { counts.nodes ≤ node_limit },
+    ghost few_entries: { counts.entries ≤ entry_limit },
+    ghost fits: { records_length counts.nodes counts.entries ≤ length bytes.now - trailer_size },
 }
 
 // Whether a trailer with these counts and this distance fits the bytes, of which there are `len`.
 fn trailer_fits(len: usize, counts: Counts, distance: u32) -> bool
-    requires { 8 ≤ len }
+    requires { TRAILER ≤ len }
     ensures { result
-        ≡ nat_le counts.nodes 512
-        && (nat_le counts.entries 256
-        && (distance == records_length counts.nodes counts.entries && nat_le distance (len - 8))) }
+        ≡ nat_le counts.nodes NODES
+        && (nat_le counts.entries ENTRIES
+        && (distance == records_length counts.nodes counts.entries && nat_le distance (len - TRAILER))) }
 {
     let few = counts.nodes <= NODES && counts.entries <= ENTRIES;
     few && distance == counts.records_length() && distance as usize <= len - TRAILER
@@ -46,9 +47,9 @@ impl<'a> Frame<'a> {
         }
         let counts = Counts {
             nodes: u16_at(bytes, len - TRAILER),
-            entries: u16_at(bytes, len - 6),
+            entries: u16_at(bytes, len - ENTRY_COUNT),
         };
-        if !trailer_fits(len, counts, u32_at(bytes, len - 4)) {
+        if !trailer_fits(len, counts, u32_at(bytes, len - DISTANCE)) {
             return None;
         }
         Some(Frame { bytes, counts })
