@@ -22,7 +22,7 @@ use Rattle.docket.specs.declared.standing.Standing.{Standing}
 use Rattle.docket.specs.Standings.{Occurs, next}
 use Rattle.docket.specs.Events.{Event, Event.node, Event.enter, Event.strike, Event.refute, Event.show, Event.standing}
 use Rattle.docket.specs.Changes.{Change, tableau_accepted, if_granted, change, State, granted_event, standing_after, used_after, after, entry_taken, entry_struck}
-use Rattle.docket.specs.Answers.{passed_on, PassesOn, Answered}
+use Rattle.docket.specs.Answers.{passed_on, PassesOn, RefuteCount, Answered}
 use Rattle.docket.specs.Runs.{Moves, MovesAll, MovesAll.none, MovesAll.more, New, Run}
 use Rattle.docket.specs.Histories.{last_steps, steps_after, Tabled, Stood, Stood.opened, Stood.followed, Lifts, Takes}
 use Rattle.docket.proofs.Changes.{Core, core_no_model}
@@ -36,7 +36,7 @@ use Rattle.models.specs.Encodings.{model_bytes, ModelsEncoded}
 use Rattle.judge.specs.Laws.{TableauxHaveBytes}
 use Rattle.docket.specs.declared.standing.Standing.TheVariants.{Open, Refuted, Shown}
 use Rattle.docket.specs.declared.standing.Granted.TheVariants.{Closed, Satisfied}
-use Rattle.docket.specs.Laws.{Handed, StepLaw, DocketLaw, ModelsHanded, TableauxHanded}
+use Rattle.docket.specs.Laws.{Handed, RefuteLaw, StepLaw, DocketLaw, ModelsHanded, TableauxHanded}
 
 pub record KeptRun (h : List Event) (s : State) : Type 0 where
   pub book : BookKept h s.book
@@ -151,6 +151,15 @@ passed_ok : {A F : Type 0} (hold : F → Fault) (r : Result A F) → is_ok (pass
 passed_ok hold (Ok x) = refl
 passed_ok hold (Err e) = refl
 
+-- what the judge promises of its answer, as the law says it of the docket's
+judge_answered : (bk : Book) (bs : List ℕ) (ls : Lengths) (a : Result Used RefuteFault) → RefuteAnswer bk ls bs a → RefuteLaw bk bs ls (passed_on fault.Refute (result_map_both member_count (λ f. f) a))
+judge_answered bk bs ls (Ok u) a = let accepted = a.accepted u refl in (accepted.refutation, accepted.count, λ g why. cc (a.refuses g why))
+judge_answered bk bs ls (Err e) a = (e, refl, a.refused e refl, λ r. cc (a.accepts r).1, λ g why. cc (a.refuses g why))
+
+refute_answered : (bk : Book) (bs : List ℕ) (ls : Lengths) (r : Result ℕ Fault) → PassesOn fault.Refute r (λ a. RefuteCount bk ls bs a) → RefuteLaw bk bs ls r
+refute_answered bk bs ls r (lower, passed, (answer, counted, a)) =
+    subst (RefuteLaw bk bs ls) (sym (passed ∙ ap (passed_on fault.Refute) counted)) (judge_answered bk bs ls answer a)
+
 -- refute accepts what refutes the live entries, and makes the docket refuted
 refute_accepts : (h : List Event) (s t : State) (bs : List ℕ) (ls : Lengths) (r : Result ℕ Fault) → KeptRun h s → Moves (refute bs ls r) s t → Refutation s.book ls bs → IsOk r × (t.standing ≡ Refuted)
 refute_accepts h s t bs ls (Ok n) k m refutation =
@@ -181,6 +190,7 @@ step_law handed tableaux h s e t k moves =
     let moved : (x : Event) → e ≡ x → Moves x s t = λ x is. subst (λ y. Moves y s t) is moves in
     record {
       answer = moves.answer;
+      tableau_answer = λ bs ls r is. refute_answered s.book bs ls r (moved _ is).answer;
       table = table;
       unchanged = λ same. moves.state ∙ ap (λ c. after c s) same;
       from_refuted = λ r. subst (λ v. (v ≢ Refuted) ↔ Lifts h e) (sym (table.next ∙ ap (standing_after _) r)) (lifted (names (last_steps h)) (change e));

@@ -1,9 +1,9 @@
 -- The law of all runs of a docket. A history has the newest call first.
--- Law: the state after a history. StepLaw: every next call. DocketLaw: both, after every
--- run. RunsExtend: any list of events extends a run. BookCallsLift: calls of a book as calls of a docket.
+-- Law: the state after a history. RefuteLaw: what refute answers. StepLaw: every next call. DocketLaw: both, after
+-- every run. RunsExtend: any list of events extends a run. BookCallsLift: calls of a book as calls of a docket.
 -- Handed, ModelsHanded, TableauxHanded: models and tableaux as they are handed over.
 -- Assumes nothing.
-use Rattle.std.specs.Prelude.{◌≡◌, ◌≢◌, ℕ, ◌≤◌, ◌↔◌, List, ◌++◌, map, length, IsTrue, IsOk, Result}
+use Rattle.std.specs.Prelude.{◌≡◌, ◌≢◌, ℕ, ◌≤◌, ◌↔◌, List, ◌++◌, map, length, IsTrue, IsOk, Ok, Err, Result}
 use Rattle.logic.specs.declared.records.StoredEntry.{StoredEntry}
 use Rattle.logic.specs.Books.{Book, stored_at}
 use Rattle.logic.specs.Lawful.{Lawful}
@@ -11,7 +11,7 @@ use Rattle.logic.specs.Models.{Model}
 use Rattle.logic.specs.Satisfaction.{Satisfies}
 use Rattle.logic.specs.Likeness.{Alike}
 use Rattle.logic.specs.Branches.{start}
-use Rattle.logic.specs.Tableaux.{Closed, writing, names}
+use Rattle.logic.specs.Tableaux.{Closed, writing, names, named_count}
 use Rattle.logic.specs.Limits.{Lengths, WithinLimits}
 use Rattle.logic.specs.Limits as limits
 use Rattle.orders.specs.Masks.{Preference, Strict}
@@ -20,9 +20,12 @@ use Rattle.models.specs.Meanings.{Compatible, model_of}
 use Rattle.models.specs.Answers.{HasModelLength}
 use Rattle.models.specs.Encodings.{model_bytes, MeansBetter}
 use Rattle.books.specs.Calls.{BookCall, CalledAll}
-use Rattle.judge.specs.Steps.{encoded, Bytes}
+use Rattle.judge.specs.declared.faults.RefuteFault.{RefuteFault}
+use Rattle.judge.specs.Steps.{decoded, encoded, Bytes}
+use Rattle.judge.specs.Reasons.{RefuteReason}
 use Rattle.judge.specs.Refutations.{Refutation}
 use Rattle.docket.specs.declared.fault.Fault.{Fault}
+use Rattle.docket.specs.declared.fault.Fault.TheVariants as fault
 use Rattle.docket.specs.declared.standing.Standing.TheVariants.{Refuted, Shown}
 use Rattle.docket.specs.Events.{Event, Event.refute, Event.show}
 use Rattle.docket.specs.Changes.{nothing, change, State}
@@ -66,9 +69,23 @@ Modelling bk e =
     (bs : List ℕ) × (o : Preference) × (list : List ℕ) × (r : Result ℕ Fault)
     × (e ≡ show bs o list r) × (m : Model) × Handed m bs o × Satisfies m bk × (length bk.nodes ≤ length list)
 
+-- What refute answers. Granted: the bytes write a closed tableau over the live entries that is within the limits and
+-- fits the lists, the number is that of the entries that its steps name, and no fault has a reason. Refused: they
+-- write none, and the fault is the judge's, held whole; it has a reason, and no other fault has one.
+abbrev pub RefuteLaw : Book → List ℕ → Lengths → Result ℕ Fault → Type 0
+RefuteLaw bk bs ls (Ok n) =
+    Refutation bk ls bs × (n ≡ named_count (decoded bs))
+    × ((g : RefuteFault) → RefuteReason bk ls bs g → ⊥)
+RefuteLaw bk bs ls (Err f) =
+    (e : RefuteFault) × (f ≡ fault.Refute e) × RefuteReason bk ls bs e
+    × (Refutation bk ls bs → ⊥) × ((g : RefuteFault) → RefuteReason bk ls bs g → g ≡ e)
+
 -- what holds of every next call, with any arguments
 pub record StepLaw (h : List Event) (s : State) (e : Event) (t : State) : Type 0 where
   pub answer : Answered s.book s.standing e
+  -- in terms of the calculus: what refute answers
+  pub tableau_answer : (bs : List ℕ) (ls : Lengths) (r : Result ℕ Fault) →
+      e ≡ refute bs ls r → RefuteLaw s.book bs ls r
   pub table : Tabled h e s.standing t.standing
   -- a call that changes nothing, such as a refused one, leaves book, standing and used entries as they were
   pub unchanged : change e ≡ nothing → t ≡ s
@@ -106,8 +123,8 @@ DocketLaw = (h : List Event) (s : State) → Run h s → LawfulRun h s
 abbrev pub RunsExtend : Type 0
 RunsExtend = (h es : List Event) (s t : State) → Run h s → MovesAll es s t → Run (es ++ h) t
 
--- Calls of a book are calls of a docket that has it. So what is proved of any working book, by a list of its
--- calls, holds for dockets.
+-- a list of calls of a book is a list of calls of a docket that has that book, and leads to a docket that has the
+-- book after them
 abbrev pub BookCallsLift : Type 0
 BookCallsLift =
     (cs : List BookCall) (s : State) (bk : Book) → CalledAll cs s.book bk →
