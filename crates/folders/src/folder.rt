@@ -26,7 +26,7 @@ pub trait Folder {
         ensures failed { OnErr result (known self.now name.now ≢ Some None) };
 }
 
-// Reads the first 65,535 bytes, or fewer if there are fewer. No more is read.
+// The first 65,535 bytes, or fewer if there are fewer.
 fn first_bytes<R: Read + Drop>(heap: Global, file: R) -> io::Result<Vec<u8>>
     ensures { IfOk result (λ bytes.
         IfSome (R.remaining file) (λ all. bytes.items ≡ marked_part all)) }

@@ -64,7 +64,7 @@ fn part_or_empty<F: Folder>(
 
 impl HandIn {
     /// Reads the tableau in a folder or, if the folder has no `steps.bin`, the model. Any other missing file counts as
-    /// empty. Of each file no more than the first 65,535 bytes are read.
+    /// empty. Of each file only the first 65,535 bytes count.
     pub fn read<F: Folder>(heap: Global, folder: &F) -> Result<HandIn, ReadFault>
         ensures read { IfOk result (λ hand_in.
             (fs : Files) × InFolder (F.known folder.now) fs × ReadFrom fs hand_in) }

@@ -1,0 +1,2 @@
+-- what a folder that is not marked leaves with the writer
+pub mod Failures

@@ -6,8 +6,7 @@ use Rattle.logic.specs.declared.refusal.BadLength.{BadLength}
 use Rattle.logic.specs.Lengths.{bad_length_number, bad_length_place}
 use Rattle.verdict.specs.declared.Verdict.{Verdict}
 use Rattle.verdict.specs.declared.line.Cursor.{Cursor}
-use Rattle.verdict.specs.declared.line.TheConstants.{LONGEST}
-use Rattle.verdict.specs.Lines.{line_of}
+use Rattle.verdict.specs.Lines.{line_of, line_limit}
 
 -- The bytes were written at the cursor, which moved past them. The rest of the buffer is unchanged.
 pub record Appends (bytes : List ℕ) (c c' : Cursor) : Type 0 where
@@ -19,7 +18,7 @@ pub record Appends (bytes : List ℕ) (c c' : Cursor) : Type 0 where
 -- unchanged. Err: the buffer is shorter; the fault has number 20 and the buffer's length, and nothing changed.
 abbrev pub LineAnswer : Verdict → List ℕ → List ℕ → Result ℕ (BadLength 20) → Type 0
 LineAnswer v out out' (Ok n) =
-    (LONGEST ≤ length out) × (n ≡ length (line_of v)) × (out' ≡ line_of v ++ drop n out)
+    (line_limit ≤ length out) × (n ≡ length (line_of v)) × (out' ≡ line_of v ++ drop n out)
 LineAnswer v out out' (Err f) =
-    (length out < LONGEST) × (bad_length_number f ≡ 20) × (bad_length_place f ≡ length out)
+    (length out < line_limit) × (bad_length_number f ≡ 20) × (bad_length_place f ≡ length out)
     × (out' ≡ out)

@@ -6,8 +6,7 @@ use Rattle.std.specs.Prelude.{◌≡◌, ℕ, ◌+◌, ◌-◌, ◌*◌, ◌^◌
 use Rattle.std.specs.List.{AllByRecursion}
 use Rattle.verdict.specs.declared.Verdict.{Verdict}
 use Rattle.verdict.specs.declared.Verdict.TheVariants.{Closed, Satisfied, Refused}
-use Rattle.verdict.specs.declared.line.TheConstants.{LONGEST}
-use Rattle.verdict.specs.Lines.{decimal, line_of}
+use Rattle.verdict.specs.Lines.{decimal, line_of, line_limit}
 
 -- the code of one of the digits 0 to 9
 abbrev pub Digit : ℕ → Type 0
@@ -37,5 +36,5 @@ Of32Bits (Refused number place) = (number < 2 ^ 32) × (place < 2 ^ 32)
 
 -- No line has more than 33 bytes, and some line has 33.
 pub record LinesFit : Type 0 where
-  pub short : (v : Verdict) → Of32Bits v → length (line_of v) ≤ LONGEST
-  pub longest : length (line_of (Refused 4294967295 4294967295)) ≡ LONGEST
+  pub short : (v : Verdict) → Of32Bits v → length (line_of v) ≤ line_limit
+  pub longest : length (line_of (Refused 4294967295 4294967295)) ≡ line_limit

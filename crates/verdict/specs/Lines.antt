@@ -1,5 +1,6 @@
 -- The line of a verdict, as bytes of ASCII.
--- decimal: a number in decimal. text_of: the line without its line feed. line_of: the line.
+-- decimal: a number in decimal. text_of: the line without its line feed. line_of: the line. line_limit: the length of
+-- the longest line.
 -- digitsOf 10 n, of the standard library, has the decimal digits of n, the highest first, and none for 0.
 -- Assumes nothing.
 use Rattle.std.specs.Prelude.{ℕ, zero, suc, ◌+◌, List, [], ◌∷◌, ◌++◌, map, codes}
@@ -21,3 +22,7 @@ text_of (Refused number place) = codes "refused " ++ decimal number ++ codes " a
 -- the line, with a line feed at its end
 abbrev pub line_of : Verdict → List ℕ
 line_of v = text_of v ++ (10 ∷ [])
+
+-- the longest line has 33 bytes
+abbrev pub line_limit : ℕ
+line_limit = 33

@@ -1,6 +1,7 @@
 // The trace of a tableau as a list: each step that is taken, and what it does.
 ghost use Rattle.std.specs.Prelude.{take, IfOk};
 ghost use Rattle.judge.specs.Blanks.{lengths};
+ghost use Rattle.judge.specs.Refutations.{RefuteAnswer};
 ghost use Rattle.judge.specs.Steps.{decoded};
 ghost use Rattle.judge.specs.Traces.{Trace, steps_taken};
 
@@ -50,7 +51,9 @@ pub(crate) fn work<B: ReadableBook>(
 ) -> Result<Worked, AllocError>
     ensures { IfOk result (λ w. Trace (B.meaning book.now)
         (lengths constraints.old edges.old splits.old)
-        (take (steps_taken (decoded bytes.now) w.answer) (decoded bytes.now)) w.trace.items) }
+        (take (steps_taken (decoded bytes.now) w.answer) (decoded bytes.now)) w.trace.items
+        × RefuteAnswer (B.meaning book.now) (lengths constraints.old edges.old splits.old)
+        bytes.now w.answer) }
 {
     let mut recorder = Recorder {
         steps: Vec::new(heap),
