@@ -20,6 +20,8 @@ pub returns : goal.returns
 returns g c =
     let ss = decoded c.args.bytes.now in
     let watched = c.refute_watched-answer.ensures.watched in
-    let all = kept _ (λ (r : Recorder). r.complete) (λ (r : Recorder). r.steps.items) (λ p q t h. h) watched.0 _ _ watched.2 c.if-not-recorder.false in
-    (subst (Trace (g.B.ReadableBook.meaning c.args.book.now) (lengths c.args.constraints.now c.args.edges.now c.args.splits.now) (take (steps_taken ss c.refute_watched-answer.result) ss))
-    (sym (all.1 ∙ ap (λ v. v ++ watched.0) c.new.ensures.items)) watched.1, c.refute_watched-answer.ensures.answer)
+    let all = kept _ (λ (r : Recorder). r.complete) (λ (r : Recorder). r.steps.items) (λ p q t h. h) watched.0 _ _ watched.2 c.if-not-recorder.false in (
+      subst (Trace (g.B.ReadableBook.meaning c.args.book.now) (lengths c.args.constraints.now c.args.edges.now c.args.splits.now) (take (steps_taken ss c.refute_watched-answer.result) ss))
+          (sym (all.1 ∙ ap (λ v. v ++ watched.0) c.new.ensures.items)) watched.1,
+      c.refute_watched-answer.ensures.answer,
+    )
