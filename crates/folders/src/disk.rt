@@ -7,22 +7,12 @@ use std::path::Path;
 use std::rt::Files;
 use std::{fs, io};
 
-/// The folder of a path. No contract can say what is on a disk, so nothing is known of its files.
+/// A folder on the disk. No contract can say what is on a disk, so nothing is known of its files.
 #[derive(Clone, Copy)]
 pub struct Disk<'a, R> {
-    rt: &'a R,
-    path: &'a str,
-}
-
-impl<'a, R: Files + AllocGlobal> Disk<'a, R> {
-    pub fn new(rt: &'a R, path: &'a str) -> Disk<'a, R> {
-        Disk { rt, path }
-    }
-
-    /// The current folder.
-    pub fn current(rt: &'a R) -> Disk<'a, R> {
-        Disk { rt, path: "" }
-    }
+    pub rt: &'a R,
+    /// The path of the folder; empty for the current folder.
+    pub path: &'a str,
 }
 
 impl<R: Files + AllocGlobal> Folder for Disk<'_, R> {

@@ -65,7 +65,7 @@ fn error_of(failure: Failure) -> Error {
 fn mark_path(rt: &HostRuntime, path: &str) -> Result<()> {
     let is_folder = fs::metadata(rt, path).is_ok_and(|file| file.is_dir());
     ensure!(is_folder, "no such folder: {path}");
-    mark(rt.alloc(), &Disk::new(rt, path), &mut io::writer(rt))
+    mark(rt.alloc(), &Disk { rt, path }, &mut io::writer(rt))
         .map_err(error_of)
         .context(format_args!("in the folder {path}"))
 }
@@ -74,7 +74,12 @@ fn main(rt: HostRuntime) -> Result<()> {
     let mut arguments = env::args(&rt)?;
     let _program = arguments.next();
     match arguments.next() {
-        None => mark(rt.alloc(), &Disk::current(&rt), &mut io::writer(&rt)).map_err(error_of),
+        None => mark(
+            rt.alloc(),
+            &Disk { rt: &rt, path: "" },
+            &mut io::writer(&rt),
+        )
+        .map_err(error_of),
         Some(first) => {
             mark_path(&rt, &first)?;
             for path in arguments {
