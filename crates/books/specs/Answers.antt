@@ -2,6 +2,7 @@
 -- book before the call and bk' the book after it.
 -- Offer: a kind of record that can be offered to a book. nodes, entries: the two kinds.
 -- IsPlainnessOf: whether two nodes are plain. Judged: what the tests of an offered record answer.
+-- HasRoom: whether there is room for one more. OfferJudged: what the limit and the tests answer together.
 -- OfferAnswer, StrikeAnswer: what a call answers and does.
 -- Assumes nothing.
 use Rattle.std.specs.Prelude.{◌≡◌, ℕ, ◌<◌, ◌≤◌, Bool, true, false, List, length, Ok, Err, Result}
@@ -31,6 +32,17 @@ FirstUnfit known in_range there placed (Err u) = first_unfit known in_range ther
 abbrev pub Judged : {T : Type 0} → ℕ → T → Result T Unfit → Type 0
 Judged unfit x (Ok y) = (unfit ≡ 0) × (y ≡ x)
 Judged unfit x (Err u) = unfit ≡ unfit_number u
+
+-- below the limit there is room, and otherwise the book is full: refusal 1, with the count
+abbrev pub HasRoom : {R : Type 0} → ℕ → ℕ → Result (Unit {0}) (OfferFault R) → Type 0
+HasRoom count limit (Ok u) = count < limit
+HasRoom count limit (Err f) = (limit ≤ count) × (offer_fault_number f ≡ 1) × (offer_fault_place f ≡ count)
+
+-- What a book that has `count` records of a kind answers to an offer. Granted: the offered record x, where `refusal`
+-- is 0; refused: `refusal` is the number of the fault, and `count` is its place.
+abbrev pub OfferJudged : {R T : Type 0} → ℕ → ℕ → T → Result T (OfferFault R) → Type 0
+OfferJudged refusal count x (Ok y) = (refusal ≡ 0) × (y ≡ x)
+OfferJudged refusal count x (Err f) = (refusal ≡ offer_fault_number f) × (offer_fault_place f ≡ count)
 
 -- How records of one kind are offered: `refusal` is 0 if the book grants the record, `count` is how many
 -- records of the kind the book has, and `more` is the book with the record added.

@@ -1,10 +1,9 @@
 -- Nodes with marks that tell whether they are plain; and what a book with marks answers to an offer.
 -- nodes_of, marks_of_nodes: the nodes and the marks of a list of marked nodes. no_node: the value past the end.
--- HasRoom: whether there is room for one more.
 -- NodeOffered, EntryOffered: the record that is offered, or why it is refused.
 -- MayStrike: whether an entry can be struck.
 -- Assumes nothing.
-use Rattle.std.specs.Prelude.{◌≡◌, ℕ, ◌<◌, ◌≤◌, Bool, true, List, map, Ok, Err, Result}
+use Rattle.std.specs.Prelude.{◌≡◌, ℕ, Bool, true, List, map, Ok, Err, Result}
 use Rattle.logic.specs.declared.records.Node.{Node}
 use Rattle.logic.specs.declared.records.Node.TheVariants.{Absent}
 use Rattle.logic.specs.declared.records.RawNode.{RawNode}
@@ -17,7 +16,6 @@ use Rattle.logic.specs.Refusals.{node_refusal, entry_refusal}
 use Rattle.books.specs.declared.marked.MarkedNode.{MarkedNode}
 use Rattle.books.specs.declared.faults.OfferFault.{OfferFault}
 use Rattle.books.specs.declared.faults.StrikeFault.{StrikeFault}
-use Rattle.books.specs.Faults.{offer_fault_number, offer_fault_place}
 use Rattle.books.specs.Answers.{nodes, entries, OfferRefused, StrikeRefused}
 
 -- the nodes, without their marks
@@ -31,11 +29,6 @@ marks_of_nodes ms = map (λ m. m.plain) ms
 -- the value past the end: no node, marked as plain
 abbrev pub no_node : MarkedNode
 no_node = record { node = Absent; plain = true }
-
--- below the limit there is room, and otherwise the book is full: refusal 1, with the count
-abbrev pub HasRoom : {R : Type 0} → ℕ → ℕ → Result (Unit {0}) (OfferFault R) → Type 0
-HasRoom count limit (Ok u) = count < limit
-HasRoom count limit (Err f) = (limit ≤ count) × (offer_fault_number f ≡ 1) × (offer_fault_place f ≡ count)
 
 -- granted: the node that was offered, with its mark
 abbrev pub NodeOffered : Book → RawNode → Result MarkedNode (OfferFault RawNode) → Type 0

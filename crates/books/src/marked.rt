@@ -4,12 +4,11 @@ ghost use Rattle.logic.specs.Concepts.{concepts, plain, is_typical};
 ghost use Rattle.logic.specs.Books.{concept};
 ghost use Rattle.logic.specs.Refusals.{NodeFits, EntryFits};
 ghost use Rattle.books.specs.Answers.{IsPlainnessOf};
-ghost use Rattle.books.specs.Marks.{HasRoom, NodeOffered, EntryOffered, MayStrike};
+ghost use Rattle.books.specs.Marks.{NodeOffered, EntryOffered, MayStrike};
 
 use crate::book::ReadableBook;
-use crate::faults::{EnterFault, NodeFault, OfferFault, Reason, StrikeFault};
+use crate::faults::{EnterFault, NodeFault, StrikeFault};
 use crate::offers::{PlainOperands, judge_entry, judge_node, plain_node, typical_node};
-use logic::limits::{ENTRIES, NODES};
 use logic::records::{Entry, Node, RawEntry, RawNode};
 
 // A node, and whether it is plain.
@@ -29,16 +28,6 @@ pub(crate) trait MarkedBook: ReadableBook {
     // Whether node i is plain; past the end it is.
     fn plain_at(&self, i: u16) -> bool
         ensures { result ≡ plain (concept (Self.ReadableBook.meaning self.now) i) };
-}
-
-// Whether there is room for one more record.
-fn room<R>(count: u16, limit: u16) -> Result<(), OfferFault<R>>
-    ensures { HasRoom count limit result }
-{
-    if count >= limit {
-        return Err(OfferFault::new(Reason::Full, count));
-    }
-    Ok(())
 }
 
 // Whether the nodes a and b are plain.
@@ -63,13 +52,8 @@ pub(crate) fn offered_node<B: MarkedBook>(book: &B, raw: RawNode) -> Result<Mark
     ensures offered { NodeOffered (B.ReadableBook.meaning book.now) raw result }
     ensures exact { IsOk result ↔ NodeFits (B.ReadableBook.meaning book.now) raw }
 {
-    let count = book.node_count();
-    room(count, NODES)?;
     let plain_operands = plain_operands(book, raw.a, raw.b);
-    let node = judge_node(count, plain_operands, raw).map_err(|unfit| OfferFault::new(
-        Reason::Unfit(unfit),
-        count,
-    ))?;
+    let node = judge_node(book.node_count(), plain_operands, raw)?;
     let plain = plain_node(node, plain_operands);
     Ok(MarkedNode { node, plain })
 }
@@ -79,16 +63,13 @@ pub(crate) fn offered_entry<B: MarkedBook>(book: &B, raw: RawEntry) -> Result<En
     ensures offered { EntryOffered (B.ReadableBook.meaning book.now) raw result }
     ensures exact { IsOk result ↔ EntryFits (B.ReadableBook.meaning book.now) raw }
 {
-    let count = book.entry_count();
-    room(count, ENTRIES)?;
-    let plain_operands = plain_operands(book, raw.a, raw.b);
     judge_entry(
+        book.entry_count(),
         book.node_count(),
         typical_at(book, raw.a),
-        plain_operands,
+        plain_operands(book, raw.a, raw.b),
         raw,
     )
-    .map_err(|unfit| OfferFault::new(Reason::Unfit(unfit), count))
 }
 
 // Whether entry i can be struck, or why not.

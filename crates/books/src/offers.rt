@@ -6,12 +6,13 @@ ghost use Rattle.logic.specs.Written.{node_of, node_a, node_b, entry_of, entry_a
 ghost use Rattle.logic.specs.Concepts.{Concept, concepts, of, read, plain, is_typical};
 ghost use Rattle.logic.specs.Books.{Book, concept};
 ghost use Rattle.logic.specs.Lawful.{node_within_limits, node_operands_below, node_typicality_allowed, entry_within_limits, entry_operands_below, entry_typicality_allowed};
-ghost use Rattle.logic.specs.Refusals.{node_unfit, node_unused_zero, entry_unfit, entry_unused_zero};
-ghost use Rattle.books.specs.Answers.{Judged, IsPlainnessOf, FirstUnfit};
+ghost use Rattle.logic.specs.Bounds.{node_limit, entry_limit};
+ghost use Rattle.logic.specs.Refusals.{node_unfit, node_unused_zero, node_refusal, entry_unfit, entry_unused_zero, entry_refusal, unless_full};
+ghost use Rattle.books.specs.Answers.{Judged, OfferJudged, IsPlainnessOf, FirstUnfit, HasRoom};
 ghost use Rattle.books.specs.Offers.{plain_by, node_typicality_allowed_by, entry_typicality_allowed_by, node_unfit_by, entry_unfit_by};
 
-use crate::faults::Unfit;
-use logic::limits::{INDIVIDUALS, NAMES, ROLES};
+use crate::faults::{EnterFault, NodeFault, OfferFault, Reason, Unfit};
+use logic::limits::{ENTRIES, INDIVIDUALS, NAMES, NODES, ROLES};
 use logic::records::{Entry, Node, RawEntry, RawNode};
 
 // Whether the operands a and b of an offered record are plain nodes.
@@ -19,6 +20,16 @@ use logic::records::{Entry, Node, RawEntry, RawNode};
 pub struct PlainOperands {
     pub plain_a: bool,
     pub plain_b: bool,
+}
+
+// Whether there is room for one more record.
+fn room<R>(count: u16, limit: u16) -> Result<(), OfferFault<R>>
+    ensures { HasRoom count limit result }
+{
+    if count >= limit {
+        return Err(OfferFault::new(Reason::Full, count));
+    }
+    Ok(())
 }
 
 // The first of the four tests that fails, in the order of the refusals; for nodes and for entries.
@@ -102,8 +113,8 @@ pub fn typical_node(node: Node) -> bool
     matches!(node, Node::Typical(_))
 }
 
-// The node that is offered, or why it does not fit a book of `count` nodes. Whether the book is full is tested before.
-pub fn judge_node(count: u16, plain_operands: PlainOperands, raw: RawNode) -> Result<Node, Unfit>
+// The node that is offered, or why it does not fit a book of `count` nodes that is not full.
+pub fn fitting_node(count: u16, plain_operands: PlainOperands, raw: RawNode) -> Result<Node, Unfit>
     ensures flags { Judged (node_unfit_by count plain_operands raw) (node_of raw) result }
     ensures books { (bk : Book) → length bk.nodes ≡ count
         → IsPlainnessOf (concepts bk.nodes) raw.a raw.b plain_operands
@@ -117,6 +128,26 @@ pub fn judge_node(count: u16, plain_operands: PlainOperands, raw: RawNode) -> Re
         node_typicality_allowed(node, plain_operands),
     )?;
     Ok(node)
+}
+
+// The node that is offered, or why a book of `count` nodes refuses it: the book is full, or the node does not fit.
+pub fn judge_node(
+    count: u16,
+    plain_operands: PlainOperands,
+    raw: RawNode,
+) -> Result<Node, NodeFault>
+    ensures flags { OfferJudged
+        (unless_full node_limit count (node_unfit_by count plain_operands raw)) count
+        (node_of raw) result }
+    ensures books { (bk : Book) → length bk.nodes ≡ count
+        → IsPlainnessOf (concepts bk.nodes) raw.a raw.b plain_operands
+        → OfferJudged (node_refusal bk raw) (length bk.nodes) (node_of raw) result }
+{
+    room(count, NODES)?;
+    fitting_node(count, plain_operands, raw).map_err(|unfit| OfferFault::new(
+        Reason::Unfit(unfit),
+        count,
+    ))
 }
 
 fn entry_within_limits(entry: Entry) -> bool
@@ -157,9 +188,9 @@ fn entry_typicality_allowed(entry: Entry, typical_a: bool, plain_operands: Plain
     }
 }
 
-// The entry that is offered, or why it does not fit a book of `count` nodes; `typical_a`: node a is T(c) for some
-// c.
-pub fn judge_entry(
+// The entry that is offered, or why it does not fit a book of `count` nodes that is not full; `typical_a`: node a is
+// T(c) for some c.
+pub fn fitting_entry(
     count: u16,
     typical_a: bool,
     plain_operands: PlainOperands,
@@ -180,4 +211,28 @@ pub fn judge_entry(
         entry_typicality_allowed(entry, typical_a, plain_operands),
     )?;
     Ok(entry)
+}
+
+// The entry that is offered, or why a book of `count` entries and `nodes` nodes refuses it: the book is full, or the
+// entry does not fit.
+pub fn judge_entry(
+    count: u16,
+    nodes: u16,
+    typical_a: bool,
+    plain_operands: PlainOperands,
+    raw: RawEntry,
+) -> Result<Entry, EnterFault>
+    ensures flags { OfferJudged
+        (unless_full entry_limit count (entry_unfit_by nodes typical_a plain_operands raw)) count
+        (entry_of raw) result }
+    ensures books { (bk : Book) → length bk.entries ≡ count → length bk.nodes ≡ nodes
+        → is_typical (concept bk raw.a) ≡ typical_a
+        → IsPlainnessOf (concepts bk.nodes) raw.a raw.b plain_operands
+        → OfferJudged (entry_refusal bk raw) (length bk.entries) (entry_of raw) result }
+{
+    room(count, ENTRIES)?;
+    fitting_entry(nodes, typical_a, plain_operands, raw).map_err(|unfit| OfferFault::new(
+        Reason::Unfit(unfit),
+        count,
+    ))
 }

@@ -1,9 +1,10 @@
-// Reading records at an offset of the bytes.
+// Reading records at an offset of the bytes. A record is cut out first, so that its length is fixed and the compiler can
+// leave out the tests of the end.
 ghost use Rattle.std.specs.Prelude.{◌≡◌, ◌+◌, ◌-◌, ◌≤◌, nat_lt, length, if◌then◌else◌};
 ghost use Rattle.sealed.specs.Writing.{struck_mark};
 ghost use Rattle.sealed.specs.Reading.{raw_node_at, raw_entry_at, stored_at_offset};
 
-use crate::counts::STRUCK;
+use crate::counts::{ENTRY, NODE, STRUCK};
 use logic::bytes::u16_at;
 use logic::records::{Entry, RawEntry, RawNode, StoredEntry};
 
@@ -12,10 +13,11 @@ pub(crate) fn raw_node_at(bytes: &[u8], i: usize) -> RawNode
     requires { i + 5 ≤ length bytes.now }
     ensures { result ≡ raw_node_at bytes.now i }
 {
+    let record = &bytes[i..i + NODE];
     RawNode {
-        kind: bytes[i],
-        a: u16_at(bytes, i + 1),
-        b: u16_at(bytes, i + 3),
+        kind: record[0],
+        a: u16_at(record, 1),
+        b: u16_at(record, 3),
     }
 }
 
@@ -24,11 +26,12 @@ pub(crate) fn raw_entry_at(bytes: &[u8], i: usize) -> RawEntry
     requires { i + 7 ≤ length bytes.now }
     ensures { result ≡ raw_entry_at bytes.now i }
 {
+    let record = &bytes[i..i + ENTRY];
     RawEntry {
-        kind: entry_kind(bytes[i]),
-        a: u16_at(bytes, i + 1),
-        b: u16_at(bytes, i + 3),
-        c: u16_at(bytes, i + 5),
+        kind: entry_kind(record[0]),
+        a: u16_at(record, 1),
+        b: u16_at(record, 3),
+        c: u16_at(record, 5),
     }
 }
 

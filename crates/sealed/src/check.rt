@@ -10,7 +10,7 @@ ghost use Rattle.sealed.specs.Steps.{PlainMarks, NodeChecked, NodesGranted, Node
 use crate::bytes::{raw_entry_at, raw_node_at};
 use crate::faults::CheckFault;
 use crate::frame::Frame;
-use books::offers::{PlainOperands, judge_entry, judge_node, plain_node, typical_node};
+use books::offers::{PlainOperands, fitting_entry, fitting_node, plain_node, typical_node};
 use logic::limits::NODES;
 
 // The mark of node i: whether it is plain; true past the last mark.
@@ -40,7 +40,7 @@ fn check_node(frame: &Frame, i: u16, marks: &[bool]) -> Result<bool, CheckFault>
     let at = frame.node_place(i);
     let raw = raw_node_at(frame.bytes, at);
     let plain_operands = plain_operands(marks, raw.a, raw.b);
-    let node = judge_node(i, plain_operands, raw).map_err(|unfit| CheckFault::BadRecord(
+    let node = fitting_node(i, plain_operands, raw).map_err(|unfit| CheckFault::BadRecord(
         unfit, at,
     ))?;
     Ok(plain_node(node, plain_operands))
@@ -77,7 +77,7 @@ impl<'a> Marked<'a> {
         let raw = raw_entry_at(self.frame.bytes, at);
         let typical_a = typical_node(self.frame.node_at(raw.a));
         let plain_operands = plain_operands(&self.marks, raw.a, raw.b);
-        let judged = judge_entry(self.frame.counts.nodes, typical_a, plain_operands, raw);
+        let judged = fitting_entry(self.frame.counts.nodes, typical_a, plain_operands, raw);
         judged.map_err(|unfit| CheckFault::BadRecord(unfit, at))?;
         Ok(())
     }

@@ -3,7 +3,7 @@ use crate::filled::sample_table;
 use books::book::{EditableBook, ReadableBook};
 use books::slot_table::SlotTable;
 use logic::records::{RawEntry, RawNode};
-use logic::refusal::BadLength;
+use logic::refusal::{BadLength, Refusal, Report};
 use sealed::check::check as check_bytes;
 use sealed::seal::seal;
 use sealed::sealed_book::SealedBook;
@@ -104,7 +104,15 @@ fn the_largest_book_has_4360_bytes(rt: HostRuntime) -> Result<(), Fail> {
 fn a_short_buffer_stays_as_it_was(rt: HostRuntime) -> Result<(), Fail> {
     let book: SlotTable = EditableBook::new(rt.alloc())?;
     let mut out = [5; 7];
-    assert_eq!(rt; seal(&book, &mut out), Err(BadLength(7)));
+    let refused = seal(&book, &mut out);
+    assert_eq!(rt; refused, Err(BadLength(7)));
+    assert_eq!(rt;
+        refused.map_err(|fault| fault.report()),
+        Err(Report {
+            number: 20,
+            place: 7
+        })
+    );
     assert_eq!(rt; out, [5; 7]);
     Ok(())
 }

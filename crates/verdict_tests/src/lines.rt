@@ -1,5 +1,5 @@
 // Lines in buffers that held `#` everywhere.
-use logic::refusal::BadLength;
+use logic::refusal::{BadLength, Refusal, Report};
 use verdict::Verdict;
 use verdict::line::{LineFault, line};
 
@@ -8,6 +8,14 @@ fn written<const N: usize>(verdict: Verdict) -> (Result<usize, LineFault>, [u8; 
     let mut out = [b'#'; N];
     let answer = line(verdict, &mut out);
     (answer, out)
+}
+
+// Number and place for a buffer of so many bytes.
+fn short(length: usize) -> Result<usize, Report> {
+    Err(Report {
+        number: 20,
+        place: length,
+    })
 }
 
 #[test]
@@ -60,11 +68,12 @@ fn zero_and_largest(rt: HostRuntime) {
 
 #[test]
 fn buffers(rt: HostRuntime) {
-    assert_eq!(rt;
-        written(Verdict::Closed(4)),
-        (Err(BadLength(32)), [b'#'; 32])
-    );
-    assert_eq!(rt; written(Verdict::Closed(4)), (Err(BadLength(0)), []));
+    let (refused, out) = written(Verdict::Closed(4));
+    assert_eq!(rt; (refused, out), (Err(BadLength(32)), [b'#'; 32]));
+    assert_eq!(rt; refused.map_err(|fault| fault.report()), short(32));
+    let (refused, out) = written(Verdict::Closed(4));
+    assert_eq!(rt; (refused, out), (Err(BadLength(0)), []));
+    assert_eq!(rt; refused.map_err(|fault| fault.report()), short(0));
     assert_eq!(rt;
         written(Verdict::Closed(4)),
         (Ok(23), *b"closed, entries used 4\n##########")

@@ -6,7 +6,7 @@ use Rattle.books.proofs.marked.offered_node.Goals as goal
 pub returns-in_err-node-clause-exact : goal.returns-in_err-node-clause-exact
 returns-in_err-node-clause-exact g c =
     let book = c.args.book.now in
-    let refused = c.from_residual-in_err-node.result in
+    let refused = c.from_residual.result in
     let offered : NodeOffered (g.B.ReadableBook.meaning book) c.args.raw refused = search rules in
     node_exact (g.B.ReadableBook.meaning book) (g.B.ReadableBook.lawful book) c.args.raw refused offered
 

@@ -21,7 +21,7 @@ returns c =
     let count = length-nodes_in f.bytes.now (node_start f.bytes.now f.counts.nodes f.counts.entries) c.args.i in
     let room : length ns < 512 = omega (arith, count, f.few_nodes, c.requires.within) in
     let told = c.plain_operands-plain_operands.ensures ns c.requires.marked in
-    let h = judged_ok _ c.judge_node.result c.map_err.result _ (c.judge_node.ensures.books bk count told) c.in_ok-node.node c.map_err.ensures.cases c.in_ok-node.was in
+    let h = judged_ok _ c.fitting_node.result c.map_err.result _ (c.fitting_node.ensures.books bk count told) c.in_ok-node.node c.map_err.ensures.cases c.in_ok-node.was in
     let granted = with_room 512 (length ns) (node_unfit bk raw) room ∙ h.0 in
     let is = c.raw_node_at-raw.ensures ∙ ap (raw_node_at f.bytes.now) c.node_place-at.ensures.place in
     let w = (node_granted bk raw granted).0 in
@@ -39,6 +39,6 @@ returns-in_err-node c =
     let room : length ns < 512 = omega (arith, count, f.few_nodes, c.requires.within) in
     let told = c.plain_operands-plain_operands.ensures ns c.requires.marked in
     let is = c.raw_node_at-raw.ensures ∙ ap (raw_node_at f.bytes.now) c.node_place-at.ensures.place in
-    let h = judged_err _ c.judge_node.result c.map_err.result _ (c.judge_node.ensures.books bk count told) c.in_err-node.field-0.0 c.map_err.ensures.cases c.in_err-node.was in
+    let h = judged_err _ c.fitting_node.result c.map_err.result _ (c.fitting_node.ensures.books bk count told) c.in_err-node.field-0.0 c.map_err.ensures.cases c.in_err-node.was in
     let fault : c.from_residual.result ≡ Err (BadRecord h.0 c.node_place-at.result) = search rules in
     rw fault (ap (node_refusal bk) (sym is) ∙ with_room 512 (length ns) (node_unfit bk raw) room ∙ h.2, c.node_place-at.ensures.place)
