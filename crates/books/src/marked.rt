@@ -8,7 +8,7 @@ ghost use Rattle.books.specs.Marks.{NodeOffered, EntryOffered, MayStrike};
 
 use crate::book::ReadableBook;
 use crate::faults::{EnterFault, NodeFault, StrikeFault};
-use crate::offers::{PlainOperands, judge_entry, judge_node, plain_node, typical_node};
+use crate::offers::{PlainOperands, judge_entry_offer, judge_node_offer, plain_node, typical_node};
 use logic::records::{Entry, Node, RawEntry, RawNode};
 
 // A node, and whether it is plain.
@@ -53,7 +53,7 @@ pub(crate) fn offered_node<B: MarkedBook>(book: &B, raw: RawNode) -> Result<Mark
     ensures exact { IsOk result ↔ NodeFits (B.ReadableBook.meaning book.now) raw }
 {
     let plain_operands = plain_operands(book, raw.a, raw.b);
-    let node = judge_node(book.node_count(), plain_operands, raw)?;
+    let node = judge_node_offer(book.node_count(), plain_operands, raw)?;
     let plain = plain_node(node, plain_operands);
     Ok(MarkedNode { node, plain })
 }
@@ -63,7 +63,7 @@ pub(crate) fn offered_entry<B: MarkedBook>(book: &B, raw: RawEntry) -> Result<En
     ensures offered { EntryOffered (B.ReadableBook.meaning book.now) raw result }
     ensures exact { IsOk result ↔ EntryFits (B.ReadableBook.meaning book.now) raw }
 {
-    judge_entry(
+    judge_entry_offer(
         book.entry_count(),
         book.node_count(),
         typical_at(book, raw.a),

@@ -130,8 +130,18 @@ pub fn fitting_node(count: u16, plain_operands: PlainOperands, raw: RawNode) -> 
     Ok(node)
 }
 
+// `fitting_node` under another name: the node that is offered, or why it does not fit.
+pub fn judge_node(count: u16, plain_operands: PlainOperands, raw: RawNode) -> Result<Node, Unfit>
+    ensures flags { Judged (node_unfit_by count plain_operands raw) (node_of raw) result }
+    ensures books { (bk : Book) → length bk.nodes ≡ count
+        → IsPlainnessOf (concepts bk.nodes) raw.a raw.b plain_operands
+        → Judged (node_unfit bk raw) (node_of raw) result }
+{
+    fitting_node(count, plain_operands, raw)
+}
+
 // The node that is offered, or why a book of `count` nodes refuses it: the book is full, or the node does not fit.
-pub fn judge_node(
+pub fn judge_node_offer(
     count: u16,
     plain_operands: PlainOperands,
     raw: RawNode,
@@ -213,9 +223,26 @@ pub fn fitting_entry(
     Ok(entry)
 }
 
+// `fitting_entry` under another name: the entry that is offered, or why it does not fit.
+pub fn judge_entry(
+    count: u16,
+    typical_a: bool,
+    plain_operands: PlainOperands,
+    raw: RawEntry,
+) -> Result<Entry, Unfit>
+    ensures flags { Judged (entry_unfit_by count typical_a plain_operands raw)
+        (entry_of raw) result }
+    ensures books { (bk : Book) → length bk.nodes ≡ count
+        → is_typical (concept bk raw.a) ≡ typical_a
+        → IsPlainnessOf (concepts bk.nodes) raw.a raw.b plain_operands
+        → Judged (entry_unfit bk raw) (entry_of raw) result }
+{
+    fitting_entry(count, typical_a, plain_operands, raw)
+}
+
 // The entry that is offered, or why a book of `count` entries and `nodes` nodes refuses it: the book is full, or the
 // entry does not fit.
-pub fn judge_entry(
+pub fn judge_entry_offer(
     count: u16,
     nodes: u16,
     typical_a: bool,
