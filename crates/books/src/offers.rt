@@ -130,7 +130,7 @@ pub fn fitting_node(count: u16, plain_operands: PlainOperands, raw: RawNode) -> 
     Ok(node)
 }
 
-// `fitting_node` under another name: the node that is offered, or why it does not fit.
+// The same as `fitting_node`: the node that is offered, or why it does not fit a book of `count` nodes that is not full.
 pub fn judge_node(count: u16, plain_operands: PlainOperands, raw: RawNode) -> Result<Node, Unfit>
     ensures flags { Judged (node_unfit_by count plain_operands raw) (node_of raw) result }
     ensures books { (bk : Book) → length bk.nodes ≡ count
@@ -223,7 +223,8 @@ pub fn fitting_entry(
     Ok(entry)
 }
 
-// `fitting_entry` under another name: the entry that is offered, or why it does not fit.
+// The same as `fitting_entry`: the entry that is offered, or why it does not fit a book of `count` nodes that is not
+// full; `typical_a`: node a is T(c) for some c.
 pub fn judge_entry(
     count: u16,
     typical_a: bool,

@@ -1,4 +1,5 @@
-// Tests of editable books at their limits, each of them on both kinds of book, and of the tests of an offered record.
+// Tests of editable books at their limits, each on both kinds of book; and, in `offers`, of the functions that judge an
+// offered record.
 #![tactic(auto)]
 
 #[cfg(test)]

@@ -1,4 +1,5 @@
-// The tests of an offered record alone, without a book: the caller says what is known of its operands.
+// Tests of the functions that judge an offered record. They get no book: the caller says what is known of the operands,
+// and may say what is true of no book.
 use books::faults::Unfit::{self, NoSuchNode, OutOfRange, TypicalMisplaced, UnknownKind};
 use books::faults::{OfferFault, Reason};
 use books::offers::{
@@ -25,12 +26,15 @@ const PLAIN_B: PlainOperands = PlainOperands {
 };
 
 // Nodes that do not fit a book of two nodes, and why.
-const UNFIT_NODES: [(PlainOperands, u8, u16, u16, Unfit); 7] = [
+const UNFIT_NODES: [(PlainOperands, u8, u16, u16, Unfit); 10] = [
     (BOTH_PLAIN, 9, 0, 0, UnknownKind),
+    (BOTH_PLAIN, 9, 9, 0, UnknownKind),
     (PLAIN_B, 99, 0, 0, UnknownKind),
     (BOTH_PLAIN, 2, 64, 0, OutOfRange),
     (BOTH_PLAIN, 3, 0, 1, OutOfRange),
+    (PLAIN_A, 6, 16, 2, OutOfRange),
     (BOTH_PLAIN, 4, 0, 2, NoSuchNode),
+    (PLAIN_A, 7, 0, 2, NoSuchNode),
     (PLAIN_A, 7, 0, 1, TypicalMisplaced),
     (PLAIN_B, 8, 1, 0, TypicalMisplaced),
 ];
@@ -43,7 +47,7 @@ const FITTING_NODES: [(PlainOperands, u8, u16, u16); 4] = [
     (BOTH_PLAIN, 8, 1, 0),
 ];
 
-// Both names give this answer, and a book that is not full gives it with the count.
+// `judge_node` and `fitting_node` give this answer. `judge_node_offer` gives it with the count, as the book is not full.
 fn node_answer(
     rt: &impl Abort,
     plain_operands: PlainOperands,
@@ -75,7 +79,7 @@ fn nodes_that_fit_and_others(rt: HostRuntime) {
     }
 }
 
-// Entries that do not fit a book of two nodes, and why; with whether node a is T(c) for some c.
+// Entries that do not fit a book of two nodes, and why. The first field: whether node a is T(c) for some c.
 const UNFIT_ENTRIES: [(bool, PlainOperands, u8, u16, u16, u16, Unfit); 6] = [
     (false, BOTH_PLAIN, 0, 0, 0, 0, UnknownKind),
     (true, BOTH_PLAIN, 1, 0, 1, 1, OutOfRange),
@@ -132,7 +136,7 @@ fn entries_that_fit_and_others(rt: HostRuntime) {
     }
 }
 
-// Only the answer to an offer knows the limit.
+// Of these functions only `judge_node_offer` and `judge_entry_offer` test the limit, and they test it first.
 #[test]
 fn a_full_book(rt: HostRuntime) {
     let top = RawNode {
@@ -148,10 +152,17 @@ fn a_full_book(rt: HostRuntime) {
         judge_node_offer(511, BOTH_PLAIN, top).map(RawNode::from),
         Ok(top)
     );
-    assert_eq!(rt;
-        judge_node_offer(512, BOTH_PLAIN, top).map(RawNode::from),
-        Err(OfferFault::new(Reason::Full, 512))
-    );
+    let unknown = RawNode {
+        kind: 9,
+        a: 0,
+        b: 0,
+    };
+    for raw in [top, unknown] {
+        assert_eq!(rt;
+            judge_node_offer(512, BOTH_PLAIN, raw).map(RawNode::from),
+            Err(OfferFault::new(Reason::Full, 512))
+        );
+    }
     let role_fact = RawEntry {
         kind: 3,
         a: 0,
@@ -159,15 +170,19 @@ fn a_full_book(rt: HostRuntime) {
         c: 0,
     };
     assert_eq!(rt;
-        judge_entry(512, false, BOTH_PLAIN, role_fact).map(RawEntry::from),
-        Ok(role_fact)
-    );
-    assert_eq!(rt;
         judge_entry_offer(255, 512, false, BOTH_PLAIN, role_fact).map(RawEntry::from),
         Ok(role_fact)
     );
-    assert_eq!(rt;
-        judge_entry_offer(256, 512, false, BOTH_PLAIN, role_fact).map(RawEntry::from),
-        Err(OfferFault::new(Reason::Full, 256))
-    );
+    let unknown = RawEntry {
+        kind: 4,
+        a: 0,
+        b: 0,
+        c: 0,
+    };
+    for raw in [role_fact, unknown] {
+        assert_eq!(rt;
+            judge_entry_offer(256, 512, false, BOTH_PLAIN, raw).map(RawEntry::from),
+            Err(OfferFault::new(Reason::Full, 256))
+        );
+    }
 }
